@@ -1,0 +1,27 @@
+//! The data that the trace server speaks of, its limits, the plain folds over raw events as
+//! definitions (`specs/`), and the objects of the outside with their forms in memory.
+#![tactic(auto)]
+
+mod limits;
+mod memory;
+mod messages;
+mod name;
+mod names;
+mod profile;
+mod seq;
+mod stream;
+mod text;
+
+pub use limits::{
+    MAX_CONTAINERS, MAX_FUNCTIONS, MAX_LINK_EVENTS, MAX_OPEN_CALLS, MAX_OPEN_TRACES, MAX_PIXELS,
+    MAX_PLACES, MAX_REQUEST_LINE, MAX_STATE_EVENTS, MAX_TEXT, MAX_TIME, MAX_TRACE_LINE, MAX_TRACKS,
+    MAX_TYPES, MAX_VALUES,
+};
+pub use memory::Memory;
+pub use messages::{LinkEvent, Message, MsgTable};
+pub use name::Name;
+pub use names::{Brief, Container, TraceInfo, TraceNames, Track};
+pub use profile::{PathProfile, PathRow, Profile, Row};
+pub use seq::Seq;
+pub use stream::{Event, TrackStream};
+pub use text::TraceText;
