@@ -1,0 +1,4 @@
+pub mod Flat
+pub mod Info
+pub mod Rows
+pub mod Stream

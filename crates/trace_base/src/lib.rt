@@ -8,6 +8,7 @@ mod messages;
 mod name;
 mod names;
 mod profile;
+mod rows;
 mod seq;
 mod stream;
 mod text;
