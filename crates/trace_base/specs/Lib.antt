@@ -1,4 +1,9 @@
 pub mod Flat
 pub mod Info
+pub mod MemSink
+pub mod MemSource
+pub mod Outside
 pub mod Rows
+pub mod Sink
+pub mod Source
 pub mod Stream

@@ -2,7 +2,11 @@
 //! definitions (`specs/`), and the objects of the outside with their forms in memory.
 #![tactic(auto)]
 
+mod asks;
+mod faults;
 mod limits;
+mod mem_sink;
+mod mem_source;
 mod memory;
 mod messages;
 mod name;
@@ -10,19 +14,27 @@ mod names;
 mod profile;
 mod rows;
 mod seq;
+mod sink;
+mod source;
 mod stream;
 mod text;
 
+pub use asks::{AskIds, PassState};
+pub use faults::Faults;
 pub use limits::{
     MAX_CONTAINERS, MAX_FUNCTIONS, MAX_LINK_EVENTS, MAX_OPEN_CALLS, MAX_OPEN_TRACES, MAX_PIXELS,
     MAX_PLACES, MAX_REQUEST_LINE, MAX_STATE_EVENTS, MAX_TEXT, MAX_TIME, MAX_TRACE_LINE, MAX_TRACKS,
     MAX_TYPES, MAX_VALUES,
 };
+pub use mem_sink::MemSink;
+pub use mem_source::MemSource;
 pub use memory::Memory;
 pub use messages::{LinkEvent, Message, MsgTable};
 pub use name::Name;
 pub use names::{Brief, Container, TraceInfo, TraceNames, Track};
 pub use profile::{PathProfile, PathRow, Profile, Row};
 pub use seq::Seq;
+pub use sink::{Sink, WriteAnswer};
+pub use source::{ReadAnswer, Source};
 pub use stream::{Event, TrackStream};
 pub use text::TraceText;
