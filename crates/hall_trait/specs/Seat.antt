@@ -1,0 +1,62 @@
+-- What one seat of a hall has, and how its calls change it. Other seats may act between any two calls of this one.
+use Rattle.std.specs.Prelude.{◌≡◌, ℕ, Bool, List, [], ◌∷◌, ◌++◌, length}
+use Rattle.std.specs.Bool.{OnTrue}
+use Rattle.trace_base.specs.declared.asks.AskIds.{AskIds}
+use Rattle.trace_base.specs.declared.asks.PassState.{PassState}
+use Rattle.hall_trait.specs.History.{Entry}
+
+-- the hold of a running query on its traces, as of a place
+pub record PinView : Type 0 where
+  pub ids : AskIds
+  pub place : ℕ
+
+-- the right to publish the tracks from `from` up to, not including, `to` of a loading trace
+pub record PassView : Type 0 where
+  pub id : ℕ
+  pub from : ℕ
+  pub to : ℕ
+  pub state : PassState
+
+-- A seat: its pins and load passes, the entries of the history that it has seen, which begin the history, and the
+-- places of its own entries, rising.
+pub record Seat : Type 0 where
+  pub pins : List PinView
+  pub passes : List PassView
+  pub seen : List Entry
+  pub places : List ℕ
+
+-- ys goes on from xs
+abbrev pub Begins : {X : Type 0} → List X → List X → Type 0
+Begins {X} xs ys = (more : List X) × (ys ≡ xs ++ more)
+
+-- the seat has neither pins nor passes
+pub record IsAtRest (seat : Seat) : Type 0 where
+  pub no_pins : seat.pins ≡ []
+  pub no_passes : seat.passes ≡ []
+
+-- no entry is made and nothing more is seen
+pub record MakesNoEntry (old new : Seat) : Type 0 where
+  pub seen : new.seen ≡ old.seen
+  pub places : new.places ≡ old.places
+
+-- One entry of this seat is made, at this place. Before it the seat may see entries of others; a seat that is alone in
+-- its hall sees none.
+pub record MakesEntry (alone : Bool) (old new : Seat) (entry : Entry) (place : ℕ) : Type 0 where
+  pub before : List Entry
+  pub grown : Begins old.seen before
+  pub lone : OnTrue alone (before ≡ old.seen)
+  pub seen : new.seen ≡ before ++ entry ∷ []
+  pub last : place ≡ length new.seen
+  pub places : new.places ≡ old.places ++ place ∷ []
+
+-- the item stands once more, at the end
+abbrev pub Adds : {X : Type 0} → List X → List X → X → Type 0
+Adds old new x = new ≡ old ++ x ∷ []
+
+-- one place of the item is free, and the others stay as they were
+abbrev pub Removes : {X : Type 0} → List X → List X → X → Type 0
+Removes {X} old new x = (front back : List X) × (old ≡ front ++ x ∷ back) × (new ≡ front ++ back)
+
+-- another item stands at one place of the item, and the others stay as they were
+abbrev pub Replaces : {X : Type 0} → List X → List X → X → X → Type 0
+Replaces {X} old new x y = (front back : List X) × (old ≡ front ++ x ∷ back) × (new ≡ front ++ y ∷ back)

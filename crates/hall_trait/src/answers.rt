@@ -1,0 +1,27 @@
+use crate::pin::Pin;
+use thiserror::Error;
+
+/// Why a hall refuses.
+#[derive(Clone, Copy, Debug, PartialEq, Eq, Error)]
+pub enum HallFault {
+    /// No memory was found.
+    #[error("out of memory")]
+    Memory,
+    /// A number is used up: the place, counting the promised ones, beyond which there is no room.
+    #[error("number {0} is used up")]
+    Spent(u64),
+    /// The most traces are open, as of this place.
+    #[error("too many traces are open at place {0}")]
+    Full(u64),
+}
+
+/// What a hall answers to a query that asks for its traces.
+#[derive(Debug)]
+pub enum AskAnswer {
+    /// All of them are open.
+    Pinned(Pin),
+    /// The first of them that isn't open, the id that the next trace will get, and the place of the question.
+    Unknown { id: u64, next: u64, place: u64 },
+    /// The places are used up.
+    Spent(u64),
+}

@@ -1,0 +1,31 @@
+use trace_base::{AskIds, Brief};
+
+/// The hold of a running query on one or two traces, as of a place of the history. It is given back by `unpin`, and
+/// can't be dropped. In a pin on one trace `second` equals `first`.
+#[derive(Debug)]
+pub struct Pin {
+    pub ids: AskIds,
+    pub place: u64,
+    pub first: Brief,
+    pub second: Brief,
+}
+
+impl Pin {
+    ghost use Rattle.std.specs.Prelude.{◌≡◌, ◌<◌};
+    ghost use Rattle.hall_trait.specs.Pin.{brief_at};
+
+    /// The place at which it was asked for, counted from 1.
+    pub fn place(&self) -> u64
+        ensures { result ≡ self.now.place }
+    {
+        self.place
+    }
+
+    /// The brief of its first trace, for 0, or of its second, for 1.
+    pub fn brief(&self, which: u8) -> Brief
+        requires { which < 2 }
+        ensures { result ≡ brief_at self.now which }
+    {
+        if which == 0 { self.first } else { self.second }
+    }
+}
