@@ -1,0 +1,11 @@
+//! The plain folds over the raw events of legal streams. They are slow and short: what the fast
+//! queries answer is compared with them.
+#![tactic(auto)]
+
+mod flat;
+mod part;
+mod pass;
+#[cfg(test)]
+mod tests;
+
+pub use flat::{flat_of, flat_of_all};

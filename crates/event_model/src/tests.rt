@@ -1,0 +1,118 @@
+ghost use Rattle.std.specs.Prelude.{IfOk};
+ghost use Rattle.trace_base.specs.Stream.{IsLegal};
+
+use crate::{flat_of, flat_of_all};
+use std::alloc::Global;
+use std::test::Fail;
+use trace_base::{Event, Memory, Profile, Row, Seq, TrackStream};
+
+/// A stream that is legal.
+fn two_calls(alloc: Global) -> Result<TrackStream, Memory>
+    ensures { IfOk result (λ s. IsLegal s) }
+{
+    let events = Seq::from_slice(
+        alloc,
+        &[
+            Event::Enter(1, 0),
+            Event::Enter(2, 100_000_000),
+            Event::Leave(200_000_000),
+            Event::Enter(2, 300_000_000),
+            Event::Leave(400_000_000),
+            Event::Leave(500_000_000),
+        ],
+    )?;
+    Ok(TrackStream {
+        start: 0,
+        end: 500_000_000,
+        events,
+    })
+}
+
+fn recursion(alloc: Global) -> Result<TrackStream, Memory>
+    ensures { IfOk result (λ s. IsLegal s) }
+{
+    let events = Seq::from_slice(
+        alloc,
+        &[
+            Event::Enter(1, 0),
+            Event::Enter(1, 2),
+            Event::Leave(4),
+            Event::Leave(10),
+        ],
+    )?;
+    Ok(TrackStream {
+        start: 0,
+        end: 10,
+        events,
+    })
+}
+
+fn no_length(alloc: Global) -> Result<TrackStream, Memory>
+    ensures { IfOk result (λ s. IsLegal s) }
+{
+    let events = Seq::from_slice(
+        alloc,
+        &[
+            Event::Enter(1, 10),
+            Event::Leave(10),
+            Event::Enter(1, 20),
+            Event::Leave(20),
+        ],
+    )?;
+    Ok(TrackStream {
+        start: 0,
+        end: 100,
+        events,
+    })
+}
+
+/// Whether the profile is this one.
+fn is(profile: &Profile, bare: u128, rows: &[Row]) -> bool {
+    profile.bare == bare && profile.rows.as_slice() == rows
+}
+
+fn row(func: u32, calls: u64, incl: u128, excl: u128) -> Row {
+    Row {
+        func,
+        calls,
+        incl,
+        excl,
+    }
+}
+
+#[test]
+fn flat_profiles(rt: HostRuntime) -> Result<(), Fail> {
+    let s = two_calls(rt.alloc())?;
+    let whole = flat_of(rt.alloc(), &s, 0, 500_000_000)?;
+    assert!(rt;
+        is(
+            &whole,
+            0,
+            &[
+                row(1, 1, 500_000_000, 300_000_000),
+                row(2, 2, 200_000_000, 200_000_000)
+            ]
+        )
+    );
+    let part = flat_of(rt.alloc(), &s, 150_000_000, 350_000_000)?;
+    assert!(rt;
+        is(
+            &part,
+            0,
+            &[
+                row(1, 0, 200_000_000, 100_000_000),
+                row(2, 1, 100_000_000, 100_000_000)
+            ]
+        )
+    );
+
+    let r = recursion(rt.alloc())?;
+    assert!(rt; is(&flat_of(rt.alloc(), &r, 0, 10)?, 0, &[row(1, 2, 10, 10)]));
+    let z = no_length(rt.alloc())?;
+    assert!(rt; is(&flat_of(rt.alloc(), &z, 10, 20)?, 10, &[row(1, 1, 0, 0)]));
+
+    // Over two streams the numbers are added.
+    let both = flat_of_all(rt.alloc(), &[&r, &z], 0, 10)?;
+    assert!(rt; is(&both, 10, &[row(1, 2, 10, 10)]));
+    Ok(())
+}
