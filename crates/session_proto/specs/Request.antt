@@ -1,0 +1,58 @@
+-- What a request line says. The line stands without its newline.
+use Rattle.std.specs.Prelude.{ℕ, ◌+◌, ◌^◌, Bool, true, false, not, ◌&&◌, ◌||◌, ◌==◌, nat_lt, nat_le, if◌then◌else◌, List, [], ◌∷◌, length, slice_index, Option, None, Some, option_and_then, codes}
+use Rattle.std.specs.Char.{is_ascii_digit}
+use Rattle.std.specs.List.{list_all}
+use Rattle.std.specs.Str.{bytes_eq}
+use Rattle.std.specs.Str.Parse.{digits_value}
+use Rattle.session_proto.specs.declared.request.Request.{Request}
+use Rattle.session_proto.specs.declared.request.Request.TheVariants.{Put, Flat, Quit}
+use Rattle.session_proto.specs.declared.request.Sel.TheVariants.{All}
+
+-- the number that decimal digits write, where it is below 2^64
+unfoldable pub digits_of : List ℕ → Option ℕ
+digits_of word = if list_all is_ascii_digit word && nat_lt (digits_value 10 word) (2 ^ 64) then Some (digits_value 10 word) else None
+
+-- whether the word isn't empty and has no leading zero
+abbrev pub has_own_form : List ℕ → Bool
+has_own_form word = nat_lt 0 (length word) && (length word == 1 || not (slice_index word 0 == 48))
+
+-- a number as it is written in a request: decimal, below 2^64, without sign and without leading zeros
+unfoldable pub number_of : List ℕ → Option ℕ
+number_of word = if has_own_form word then digits_of word else None
+
+-- the byte is put before the first word
+abbrev pub onto_first : ℕ → List (List ℕ) → List (List ℕ)
+onto_first c [] = (c ∷ []) ∷ []
+onto_first c (word ∷ words) = (c ∷ word) ∷ words
+
+-- the parts of a line between its spaces; two spaces in a row have an empty one between them
+unfoldable pub words_of : List ℕ → List (List ℕ)
+words_of [] = [] ∷ []
+words_of (c ∷ cs) = if c == 32 then [] ∷ words_of cs else onto_first c (words_of cs)
+
+-- a text of at most 65,536 bytes
+abbrev pub put_of : Option ℕ → Option Request
+put_of None = None
+put_of (Some len) = if nat_le len 65536 then Some (Put len) else None
+
+-- an interval that begins before it ends, within the greatest time
+abbrev pub flat_of : Option ℕ → Option ℕ → Option ℕ → Option Request
+flat_of (Some id) (Some a) (Some b) = if nat_lt a b && nat_le b (2 ^ 62) then Some (Flat id All a b) else None
+flat_of (Some id) (Some a) None = None
+flat_of (Some id) None b = None
+flat_of None a b = None
+
+-- the request that these words are
+abbrev pub request_of_words : List (List ℕ) → Option Request
+request_of_words [] = None
+request_of_words (verb ∷ []) = if bytes_eq verb (codes "QUIT") then Some Quit else None
+request_of_words (verb ∷ len ∷ []) = if bytes_eq verb (codes "PUT") then put_of (number_of len) else None
+request_of_words (verb ∷ id ∷ sel ∷ []) = None
+request_of_words (verb ∷ id ∷ sel ∷ a ∷ []) = None
+request_of_words (verb ∷ id ∷ sel ∷ a ∷ b ∷ []) =
+    if bytes_eq verb (codes "FLAT") && bytes_eq sel (codes "*") then flat_of (number_of id) (number_of a) (number_of b) else None
+request_of_words (verb ∷ id ∷ sel ∷ a ∷ b ∷ more ∷ words) = None
+
+-- the request that the line is; a line of more than 4,096 bytes is none
+unfoldable pub request_of : List ℕ → Option Request
+request_of line = if nat_le (length line) 4096 then request_of_words (words_of line) else None

@@ -1,0 +1,13 @@
+//! Requests and replies as text.
+#![tactic(auto)]
+
+mod number;
+mod reply;
+mod request;
+mod rows;
+mod words;
+mod write;
+
+pub use reply::{NamedRow, No, Reply};
+pub use request::{Request, Sel, parse_request};
+pub use write::write_reply;
