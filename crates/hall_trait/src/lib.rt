@@ -3,11 +3,20 @@
 #![tactic(auto)]
 
 mod answers;
+mod asked_for;
 mod hall;
+mod kept_entry;
+mod kept_history;
+mod kept_pin;
 mod pass;
 mod pin;
+mod plain_hall;
 
 pub use answers::{AskAnswer, HallFault};
 pub use hall::Hall;
 pub use pass::LoadPass;
 pub use pin::Pin;
+pub use plain_hall::PlainHall;
+
+#[cfg(test)]
+mod tests;

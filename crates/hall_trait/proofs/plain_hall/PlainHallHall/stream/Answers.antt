@@ -1,0 +1,12 @@
+use Rattle.std.proofs.Common.{take, ap, ◌∙◌, ℕ}
+use Rattle.hall_trait.specs.History.{stream_of}
+use Rattle.hall_trait.specs.KeptHistory.{history}
+use Rattle.hall_trait.proofs.Found.{given_fits}
+use Rattle.hall_trait.proofs.Legal.{legal_before}
+use Rattle.hall_trait.proofs.plain_hall.PlainHallHall.stream.Goals as goal
+
+pub returns-clause-fits : goal.returns-clause-fits
+returns-clause-fits c =
+    let es = history c.args.self.now.past in
+    let place = c.args.pin.now.place in
+    given_fits (take place es) _ c.args.track c.stream.result (legal_before es place c.args.self.now.kept.legal) (c.stream.ensures ∙ ap (λ (id : ℕ). stream_of (take place es) id c.args.track) c.first_of.ensures)

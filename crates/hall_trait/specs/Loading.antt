@@ -1,0 +1,17 @@
+-- The passes over the loading traces of a history, one each.
+use Rattle.std.specs.Prelude.{ℕ, List, map, filter}
+use Rattle.hall_trait.specs.History.{Entry, opened_ids, is_loading, tracks_of, published_count}
+use Rattle.hall_trait.specs.Pass.{state_at}
+use Rattle.hall_trait.specs.Seat.{PassView}
+
+-- the ids of the loading traces, in order
+abbrev pub loading_ids : List Entry → List ℕ
+loading_ids entries = filter (is_loading entries) (opened_ids entries)
+
+-- the pass over all tracks of the trace, of which the first are published
+abbrev pub pass_of : List Entry → ℕ → PassView
+pass_of entries id = record { id = id; from = 0; to = tracks_of entries id; state = state_at (published_count entries id) (tracks_of entries id) }
+
+-- the passes over the loading traces
+abbrev pub passes_of : List Entry → List PassView
+passes_of entries = map (pass_of entries) (loading_ids entries)
