@@ -1,0 +1,13 @@
+pub mod Calls
+pub mod Cutting
+pub mod Different
+pub mod Following
+pub mod LegalStreams
+pub mod LegalTrace
+pub mod Lengths
+pub mod Members
+pub mod Numbering
+pub mod Numbers
+pub mod Own
+pub mod Streams
+pub mod Weights
