@@ -1,0 +1,70 @@
+-- How the bytes that a session reads are cut into requests.
+use Rattle.std.specs.Prelude.{ℕ, zero, suc, unwrap_or, ◌+◌, ◌==◌, nat_le, if◌then◌else◌, List, [], ◌∷◌, length, take, drop, position, Option, None, Some, option_map}
+use Rattle.session_proto.specs.Request.{request_of}
+use Rattle.session_proto.specs.declared.request.Request.{Request}
+use Rattle.session_proto.specs.declared.request.Request.TheVariants as line
+
+-- A whole request: a trace text to open, a query, the end of the session, or a line that is none of these.
+pub data WholeRequest : Type 0 where
+  Put : (text : List ℕ) → WholeRequest
+  Flat : (id a b : ℕ) → WholeRequest
+  Quit : WholeRequest
+  Unreadable : WholeRequest
+
+-- a request, and the bytes behind it
+pub record Front : Type 0 where
+  pub request : WholeRequest
+  pub rest : List ℕ
+
+-- the request of a line; the bytes of a PUT follow it
+abbrev pub with_text : Option Request → List ℕ → Option Front
+with_text None rest = Some (record { request = Unreadable; rest = rest })
+with_text (Some line.Quit) rest = Some (record { request = Quit; rest = rest })
+with_text (Some (line.Flat id sel a b)) rest = Some (record { request = Flat id a b; rest = rest })
+with_text (Some (line.Put len)) rest =
+    if nat_le len (length rest) then Some (record { request = Put (take len rest); rest = drop len rest }) else None
+
+-- the place of the first newline
+abbrev pub line_end : List ℕ → Option ℕ
+line_end bytes = position (λ b. b == 10) bytes
+
+-- the request that the line up to this newline begins
+abbrev pub front_at : List ℕ → Option ℕ → Option Front
+front_at bytes None = None
+front_at bytes (Some end) = with_text (request_of (take end bytes)) (drop (end + 1) bytes)
+
+-- the first request, where the bytes have the whole of it
+unfoldable pub first_request : List ℕ → Option Front
+first_request bytes = front_at bytes (line_end bytes)
+
+-- where bytes end: behind QUIT, between two requests, or inside one
+pub data Ending : Type 0 where
+  AfterQuit : Ending
+  Between : Ending
+  Inside : Ending
+
+-- the requests of some bytes, and where these end
+pub record Requests : Type 0 where
+  pub all : List WholeRequest
+  pub ending : Ending
+
+-- bytes without a whole request
+abbrev pub rest_only : List ℕ → Requests
+rest_only [] = record { all = []; ending = Between }
+rest_only (b ∷ bs) = record { all = []; ending = Inside }
+
+-- one request more in front of those that follow it; none follows QUIT
+abbrev pub onto : WholeRequest → Requests → Requests
+onto Quit behind = record { all = Quit ∷ []; ending = AfterQuit }
+onto (Put text) behind = record { all = Put text ∷ behind.all; ending = behind.ending }
+onto (Flat id a b) behind = record { all = Flat id a b ∷ behind.all; ending = behind.ending }
+onto Unreadable behind = record { all = Unreadable ∷ behind.all; ending = behind.ending }
+
+-- the requests, at most n of them
+unfoldable pub requests_within : ℕ → List ℕ → Requests
+requests_within zero bytes = rest_only bytes
+requests_within (suc n) bytes = unwrap_or (option_map (λ (f : Front). onto f.request (requests_within n f.rest)) (first_request bytes)) (rest_only bytes)
+
+-- the requests of the bytes; those behind QUIT belong to none
+unfoldable pub requests_of : List ℕ → Requests
+requests_of bytes = requests_within (length bytes) bytes

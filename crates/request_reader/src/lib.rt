@@ -1,0 +1,22 @@
+//! The requests of a session, read whole from a source.
+#![tactic(auto)]
+
+mod buffer;
+mod incoming;
+mod laws;
+mod line;
+mod pending;
+mod read_line;
+mod read_text;
+mod reader;
+mod rows;
+mod skip;
+#[cfg(test)]
+mod tests;
+
+pub use buffer::InputBuf;
+pub use incoming::Incoming;
+pub use laws::{requests_of_more, requests_of_rest};
+pub use line::Line;
+pub use pending::Pending;
+pub use reader::next_request;
