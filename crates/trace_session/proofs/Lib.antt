@@ -1,0 +1,13 @@
+pub mod Asking
+pub mod Ending
+pub mod Grow
+pub mod Later
+pub mod Legal
+pub mod Loading
+pub mod Opening
+pub mod Plain
+pub mod Sofar
+pub mod Stepping
+pub mod Streams
+pub mod Telling
+pub mod Words

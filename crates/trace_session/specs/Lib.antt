@@ -1,0 +1,11 @@
+pub mod Load
+pub mod Output
+pub mod Replies
+pub mod Rows
+pub mod Run
+pub mod Serve
+pub mod Served
+pub mod Serving
+pub mod Session
+pub mod Step
+pub mod Text

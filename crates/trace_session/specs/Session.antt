@@ -1,0 +1,47 @@
+-- What a session did: the requests that it served, and what it wrote, read and left.
+use Rattle.std.specs.Prelude.{◌≡◌, ◌≢◌, ℕ, Bool, List, [], ◌∷◌, ◌++◌, map, Option}
+use Rattle.std.specs.List.{AllByRecursion}
+use Rattle.trace_base.specs.Outside.{Told}
+use Rattle.hall_trait.specs.Seat.{Seat, Begins, IsAtRest}
+use Rattle.request_reader.specs.Requests.{WholeRequest, Requests, Ending, AfterQuit, Between, Inside, requests_of}
+use Rattle.trace_session.specs.Served.{Served, IsServed, blocks_of, output_of, spent_numbers}
+use Rattle.trace_session.specs.declared.sessions.End.{End}
+use Rattle.trace_session.specs.declared.sessions.End.TheVariants as ends
+
+-- the requests that were served
+abbrev pub requests_served : List Served → List WholeRequest
+requests_served served = map (λ (x : Served). x.request) served
+
+-- What was served is what the given bytes ask. At Quit the last request is QUIT; at Eof the bytes end between two
+-- requests, and at Cut inside one. Where the source failed all whole requests were served, and where the sink did, the
+-- first ones.
+abbrev pub Answers : End → Requests → List Served → Type 0
+Answers ends.Quit asked served = asked ≡ record { all = requests_served served; ending = AfterQuit }
+Answers ends.Eof asked served = asked ≡ record { all = requests_served served; ending = Between }
+Answers ends.Cut asked served = asked ≡ record { all = requests_served served; ending = Inside }
+Answers ends.ReadFault asked served = (asked.all ≡ requests_served served) × (asked.ending ≢ AfterQuit)
+Answers ends.WriteFault asked served = Begins (requests_served served) asked.all
+
+-- the bytes that the source gave, and what was served of them
+abbrev pub ReadsRequests : End → List ℕ → List ℕ → List Served → Type 0
+ReadsRequests end was now served = (given : List ℕ) × (was ≡ given ++ now) × Answers end (requests_of given) served
+
+-- All replies were written, one after another; where the sink failed, a front of them.
+abbrev pub WritesReplies : End → List ℕ → List ℕ → List Served → Type 0
+WritesReplies ends.WriteFault was now served = (front : List ℕ) × Begins front (output_of served) × (now ≡ was ++ front)
+WritesReplies ends.Quit was now served = now ≡ was ++ output_of served
+WritesReplies ends.Eof was now served = now ≡ was ++ output_of served
+WritesReplies ends.Cut was now served = now ≡ was ++ output_of served
+WritesReplies ends.ReadFault was now served = now ≡ was ++ output_of served
+
+-- A session over a seat, from old to new. Each request was served in the history that the seat has seen at its end, its
+-- new places are the blocks in order and nothing else, and it is left at rest.
+pub record IsSession (alone : Bool) (old new : Seat) (limits limits' left left' held held' : Option (List ℕ)) (end : End) : Type 0 where
+  pub served : List Served
+  pub each : AllByRecursion (IsServed alone new.seen) served
+  pub seen : Begins old.seen new.seen
+  pub places : new.places ≡ old.places ++ blocks_of served
+  pub rest : IsAtRest new
+  pub records : Told limits limits' (λ was now. now ≡ was ++ spent_numbers served)
+  pub input : Told left left' (λ was now. ReadsRequests end was now served)
+  pub output : Told held held' (λ was now. WritesReplies end was now served)

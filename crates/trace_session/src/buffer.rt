@@ -1,0 +1,28 @@
+ghost use Rattle.std.specs.Prelude.{◌≤◌, vec_capacity};
+
+use request_reader::InputBuf;
+use std::alloc::Global;
+use trace_base::Memory;
+
+/// The room that a reply of one line needs, in bytes.
+const SHORT: usize = 200;
+
+/// The buffers of a session: for the bytes that wait and the text of a PUT, and for a reply. A reply of one line finds
+/// its room always.
+#[derive(Debug, Drop)]
+pub struct SessionBuf {
+    pub(crate) input: InputBuf,
+    pub(crate) reply: Vec<u8>,
+    ghost room: { 200 ≤ vec_capacity reply },
+}
+
+impl SessionBuf {
+    /// Takes the buffers.
+    pub fn new(alloc: Global) -> Result<SessionBuf, Memory> {
+        let input = InputBuf::new(alloc)?;
+        let Ok(reply) = Vec::with_capacity(alloc, SHORT) else {
+            return Err(Memory);
+        };
+        Ok(SessionBuf { input, reply })
+    }
+}

@@ -1,0 +1,20 @@
+//! One session over a hall: requests in, replies out.
+#![tactic(auto)]
+
+mod answer;
+mod buffer;
+mod load;
+mod output;
+mod profile;
+mod program;
+mod rows;
+mod serve;
+mod sessions;
+mod text;
+
+pub use buffer::SessionBuf;
+pub use program::run;
+pub use sessions::{End, session};
+
+#[cfg(test)]
+mod tests;

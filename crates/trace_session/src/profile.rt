@@ -1,0 +1,149 @@
+ghost use Rattle.std.specs.Prelude.{◌≡◌, ◌+◌, ◌-◌, ◌^◌, ◌≤◌, ◌<◌, ◌⊎◌, ℕ, List, [], length, map, take, All, Contains, IfOk, Some, slice_index_or};
+ghost use Rattle.trace_base.specs.Flat.{flat};
+ghost use Rattle.trace_base.specs.Stream.{IsLegal};
+ghost use Rattle.trace_base.specs.declared.stream.TrackStream.{TrackStream};
+ghost use Rattle.hall_trait.specs.History.{info_of, tracks_of};
+ghost use Rattle.hall_trait.specs.Pin.{pin_view, first_id};
+ghost use Rattle.hall_trait.specs.Seat.{IsAtRest};
+ghost use Rattle.request_reader.specs.Requests.{Flat};
+ghost use Rattle.session_proto.specs.declared.reply.No.TheVariants.{Memory as NoMemory};
+ghost use Rattle.session_proto.specs.declared.reply.Reply.TheVariants.{No as Refused};
+ghost use Rattle.trace_session.specs.Replies.{streams_of, functions_of, named, profile_reply};
+ghost use Rattle.trace_session.specs.Serving.{Serves};
+
+use event_model::flat_of_all;
+use hall_trait::{AskAnswer, Hall, Pin};
+use session_proto::{NamedRow, No, Reply};
+use std::alloc::Global;
+use std::sync::Wait;
+use trace_base::{AskIds, Memory, Name, Row, Seq, TrackStream};
+
+/// Serves a FLAT: the flat profile of the trace's published tracks over the half-open interval [a, b), in nanoseconds.
+pub fn serve_flat<R: Wait, H: Hall>(
+    rt: &R,
+    alloc: Global,
+    hall: &mut H,
+    id: u64,
+    a: u64,
+    b: u64,
+) -> Reply
+    requires rest { IsAtRest (H.seat hall.old) }
+    requires below { a < b }
+    requires limit { b ≤ 2 ^ 62 }
+    ensures { Serves H.alone (H.seat hall.old) (H.seat hall.new) (H.limits hall.old) (H.limits hall.new) (Flat id a b) result }
+{
+    match hall.ask(rt, AskIds::One(id)) {
+        AskAnswer::Pinned(pin) => {
+            let reply = pinned_profile(rt, alloc, hall, &pin, a, b);
+            hall.unpin(rt, pin);
+            reply
+        }
+        AskAnswer::Unknown {
+            id: unknown,
+            next: _,
+            place,
+        } => Reply::No(No::Unknown { id: unknown, place }),
+        AskAnswer::Spent(n) => Reply::No(No::Spent(n)),
+    }
+}
+
+// The profile that the pin sees; without memory that refusal.
+fn pinned_profile<R: Wait, H: Hall>(
+    rt: &R,
+    alloc: Global,
+    hall: &mut H,
+    pin: &Pin,
+    a: u64,
+    b: u64,
+) -> Reply
+    requires has { Contains (H.seat hall.old).pins (pin_view pin.now) }
+    requires tracks { pin.now.first.tracks ≡ tracks_of (take pin.now.place (H.seat hall.old).seen) (first_id pin.now.ids) }
+    requires below { a < b }
+    requires limit { b ≤ 2 ^ 62 }
+    ensures reply { let seen = take pin.now.place (H.seat hall.old).seen in let id = first_id pin.now.ids in
+        (result ≡ profile_reply (length (streams_of seen id)) (functions_of seen id) pin.now.place (flat (streams_of seen id) a b))
+        ⊎ (result ≡ Refused NoMemory) }
+    ensures seat { H.seat hall.new ≡ H.seat hall.old }
+    ensures records { H.limits hall.new ≡ H.limits hall.old }
+{
+    let Ok(info) = hall.info(rt, pin, 0) else {
+        return Reply::No(No::Memory);
+    };
+    match profile_over(alloc, hall, pin, info.names.functions.as_slice(), a, b) {
+        Ok(reply) => reply,
+        Err(Memory) => Reply::No(No::Memory),
+    }
+}
+
+// The profile of the tracks that the pin sees, with these names.
+fn profile_over<H: Hall>(
+    alloc: Global,
+    hall: &H,
+    pin: &Pin,
+    functions: &[Name],
+    a: u64,
+    b: u64,
+) -> Result<Reply, Memory>
+    requires has { Contains (H.seat hall.now).pins (pin_view pin.now) }
+    requires tracks { pin.now.first.tracks ≡ tracks_of (take pin.now.place (H.seat hall.now).seen) (first_id pin.now.ids) }
+    requires few { pin.now.first.tracks ≤ 4096 }
+    requires below { a < b }
+    requires limit { b ≤ 2 ^ 62 }
+    ensures { let streams = streams_of (take pin.now.place (H.seat hall.now).seen) (first_id pin.now.ids) in
+        IfOk result (λ r. r ≡ profile_reply (length streams) functions.now pin.now.place (flat streams a b)) }
+{
+    let streams = published_streams(alloc, hall, pin)?;
+    let over = streams.len() as u32;
+    let profile = flat_of_all(alloc, streams.as_slice(), a, b)?;
+    let rows = named_rows(alloc, profile.rows.as_slice(), functions)?;
+    Ok(Reply::Flat {
+        over,
+        bare: profile.bare,
+        rows,
+        place: pin.place,
+    })
+}
+
+// The streams of the tracks that the pin sees published.
+#[tactic(auto, unfolding(crate::specs::Replies::streams_of))]
+fn published_streams<'a, H: Hall>(
+    alloc: Global,
+    hall: &'a H,
+    pin: &Pin,
+) -> Result<Vec<&'a TrackStream>, Memory>
+    requires has { Contains (H.seat hall.now).pins (pin_view pin.now) }
+    requires tracks { pin.now.first.tracks ≡ tracks_of (take pin.now.place (H.seat hall.now).seen) (first_id pin.now.ids) }
+    ensures streams { IfOk result (λ v. map (λ s. s.now) v.items ≡ streams_of (take pin.now.place (H.seat hall.now).seen) (first_id pin.now.ids)) }
+    ensures few { IfOk result (λ v. length v.items ≤ pin.now.first.tracks) }
+    ensures legal { IfOk result (λ v. All (λ s. IsLegal s.now) v.items) }
+{
+    let mut streams = Vec::new(alloc);
+    for track in 0..pin.first.tracks {
+        if let Some(s) = hall.stream(pin, track) {
+            streams.push(s)?;
+        }
+    }
+    Ok(streams)
+}
+
+// The rows with the names of their functions.
+fn named_rows(alloc: Global, rows: &[Row], functions: &[Name]) -> Result<Seq<NamedRow>, Memory>
+    ensures { IfOk result (λ out. out ≡ map (named functions.now) rows.now) }
+{
+    let mut out = Seq::new(alloc);
+    for row in rows {
+        let name = function_name(alloc, functions, row.func)?;
+        out.push(NamedRow { row: *row, name })?;
+    }
+    Ok(out)
+}
+
+// The name of a function, counted from 1.
+fn function_name(alloc: Global, functions: &[Name], function: u32) -> Result<Name, Memory>
+    ensures { IfOk result (λ name. name ≡ slice_index_or functions.now (function - 1) []) }
+{
+    match functions.get(function.saturating_sub(1) as usize) {
+        Some(name) => Name::from_bytes(alloc, name.as_bytes()),
+        None => Name::from_bytes(alloc, &[]),
+    }
+}

@@ -1,0 +1,292 @@
+//! Whole sessions over sources and sinks in memory. The expected texts are worked by hand.
+ghost use Rattle.std.specs.Prelude.{◌≤◌};
+
+use crate::{End, SessionBuf, run, session};
+use hall_trait::PlainHall;
+use std::alloc::Global;
+use std::process::Abort;
+use std::sync::Wait;
+use std::test::Fail;
+use trace_base::{Faults, MemSink, MemSource, Memory, ReadAnswer, Seq, Source};
+
+/// The head of a small text.
+const HEAD: &str =
+    "%EventDef PajeDefineContainerType 0\n% Alias string\n% Type string\n% Name string\n%EndEventDef\n%EventDef PajeDefineStateType 1\n% Alias string\n% Type string\n% Name string\n%EndEventDef\n%EventDef PajeCreateContainer 2\n% Time date\n% Alias string\n% Type string\n% Container string\n% Name string\n%EndEventDef\n%EventDef PajeDestroyContainer 3\n% Time date\n% Type string\n% Name string\n%EndEventDef\n%EventDef PajePushState 4\n% Time date\n% Type string\n% Container string\n% Value string\n%EndEventDef\n%EventDef PajePopState 5\n% Time date\n% Type string\n% Container string\n%EndEventDef\n0 P 0 Process\n1 S P State\n";
+
+/// A trace in which main runs for half a second, and calls f twice.
+const CALLS: &str =
+    "2 0 p0 P 0 \"rank 0\"\n4 0 S p0 main\n4 0.1 S p0 f\n5 0.2 S p0\n4 0.3 S p0 f\n5 0.4 S p0\n5 0.5 S p0\n3 0.5 P p0\n";
+
+/// What the first session writes.
+const REPLIES: &str =
+    "OK PUT 1 1 2 0 @3\nOK FLAT 2 1 0 @4\n1 1 500000000 300000000 main\n2 2 200000000 200000000 f\nOK QUIT\n";
+
+// The first session: a small trace, a profile, QUIT.
+fn first_session(alloc: Global) -> Result<String, Fail> {
+    Ok(format!(in alloc; "PUT 697\n{HEAD}{CALLS}FLAT 1 * 0 500000000\nQUIT\n")?)
+}
+
+// How a session over a new hall ends, and what it writes.
+fn served(
+    rt: &impl Wait,
+    alloc: Global,
+    text: &[u8],
+    step: usize,
+    source_fails: &[u64],
+    sink_fails: &[u64],
+) -> Result<(End, Vec<u8>), Fail>
+    requires { 1 ≤ step }
+{
+    let mut hall = PlainHall::new(alloc)?;
+    let mut buf = SessionBuf::new(alloc)?;
+    let mut input = MemSource::new(
+        Seq::from_slice(alloc, text)?,
+        Seq::from_slice(alloc, source_fails)?,
+    );
+    let mut output = MemSink::new(alloc, step, Seq::from_slice(alloc, sink_fails)?);
+    let end = session(rt, alloc, &mut hall, &mut input, &mut output, &mut buf);
+    Ok((end, Vec::from_slice(alloc, output.written())?))
+}
+
+// A source that gives one byte a call, fails at one call, numbered from 0, and doesn't tell what it has left.
+#[derive(Drop)]
+struct OneByteSource {
+    bytes: Seq<u8>,
+    given: usize,
+    fails_at: usize,
+    faults: u64,
+}
+
+impl Faults for OneByteSource {
+    ghost faults = { λ s. s.faults };
+
+    fn faults(&self) -> u64 {
+        self.faults
+    }
+}
+
+impl Source for OneByteSource {
+    ghost use Rattle.std.specs.Prelude.{None};
+
+    ghost left = { λ _. None };
+
+    fn read(&mut self, into: &mut [u8]) -> ReadAnswer {
+        if self.given == self.fails_at {
+            self.faults = self.faults.saturating_add(1);
+            return ReadAnswer::Failed;
+        }
+        match self.bytes.as_slice().get(self.given) {
+            None => ReadAnswer::End,
+            Some(byte) => {
+                into[0] = *byte;
+                self.given = self.given.saturating_add(1);
+                ReadAnswer::Got(1)
+            }
+        }
+    }
+}
+
+// How the first session ends, and what it writes, where each call gives one byte and this call fails.
+fn served_by_bytes(rt: &impl Wait, alloc: Global, fails_at: usize) -> Result<(End, Vec<u8>), Fail> {
+    let text = first_session(alloc)?;
+    let mut hall = PlainHall::new(alloc)?;
+    let mut buf = SessionBuf::new(alloc)?;
+    let mut input = OneByteSource {
+        bytes: Seq::from_slice(alloc, text.as_bytes())?,
+        given: 0,
+        fails_at,
+        faults: 0,
+    };
+    let mut output = MemSink::new(alloc, 1, Seq::new(alloc));
+    let end = session(rt, alloc, &mut hall, &mut input, &mut output, &mut buf);
+    Ok((end, Vec::from_slice(alloc, output.written())?))
+}
+
+#[test]
+fn the_first_session(rt: HostRuntime) -> Result<(), Fail> {
+    let alloc = rt.alloc();
+    let text = first_session(alloc)?;
+    for step in [1, 7, 4096] {
+        let (end, written) = served(&rt, alloc, text.as_bytes(), step, &[], &[])?;
+        assert_eq!(rt; end, End::Quit);
+        assert_eq!(rt; written.as_slice(), REPLIES.as_bytes());
+    }
+    Ok(())
+}
+
+#[test]
+fn refusals(rt: HostRuntime) -> Result<(), Fail> {
+    let alloc = rt.alloc();
+    let rows = [
+        ("PUT 2\nabQUIT\n", "NO 29\nOK QUIT\n"),
+        ("LIST\nFLAT 7 * 0 1\nQUIT\n", "NO 10\nNO 30 7 @1\nOK QUIT\n"),
+        (
+            "FLAT 01 * 0 5\nLIST \n\nQUIT\n",
+            "NO 10\nNO 10\nNO 10\nOK QUIT\n",
+        ),
+        ("PUT 65537\nQUIT\n", "NO 10\nOK QUIT\n"),
+    ];
+    for (text, replies) in rows {
+        let (end, written) = served(&rt, alloc, text.as_bytes(), 100, &[], &[])?;
+        assert_eq!(rt; end, End::Quit);
+        assert_eq!(rt; written.as_slice(), replies.as_bytes(), "at {text:?}");
+    }
+    Ok(())
+}
+
+#[test]
+fn the_most_traces(rt: HostRuntime) -> Result<(), Fail> {
+    let alloc = rt.alloc();
+    let put = format!(in alloc; "PUT 593\n{HEAD}")?;
+    let mut text = String::from_str(alloc, "PUT 1\nx")?;
+    for _ in 0..1025u32 {
+        text.push_str(put.as_str())?;
+    }
+    text.push_str("FLAT 2 * 0 1\nQUIT\n")?;
+    let (end, written) = served(&rt, alloc, text.as_bytes(), 4096, &[], &[])?;
+    assert_eq!(rt; end, End::Quit);
+    let replies = written.as_slice();
+    assert!(rt; replies.starts_with(b"NO 29\nOK PUT 1 0 0 0 @2\nOK PUT 2 0 0 0 @4\n"));
+    assert!(rt;
+        replies.ends_with(
+            b"OK PUT 1024 0 0 0 @2048\nNO 36 1024 @2049\nOK FLAT 0 0 0 @2050\nOK QUIT\n"
+        )
+    );
+    Ok(())
+}
+
+#[test]
+fn long_lines(rt: HostRuntime) -> Result<(), Fail> {
+    let alloc = rt.alloc();
+    for count in [4096, 4097, 1_000_000] {
+        let mut text = vec![in alloc; b'x'; count]?;
+        text.extend_from_slice(b"\nQUIT\n")?;
+        let (end, written) = served(&rt, alloc, text.as_slice(), 100, &[], &[])?;
+        assert_eq!(rt; end, End::Quit);
+        assert_eq!(rt;
+            written.as_slice(),
+            b"NO 10\nOK QUIT\n".as_slice(),
+            "{count} bytes"
+        );
+    }
+    Ok(())
+}
+
+// The input cut behind so many bytes: what ends the session, and how many bytes of the replies are written.
+fn end_of_cut(cut: usize) -> (End, usize) {
+    if cut == 0 {
+        (End::Eof, 0)
+    } else if cut < 705 {
+        (End::Cut, 0)
+    } else if cut == 705 {
+        (End::Eof, 18)
+    } else if cut < 726 {
+        (End::Cut, 18)
+    } else if cut == 726 {
+        (End::Eof, 90)
+    } else if cut < 731 {
+        (End::Cut, 90)
+    } else {
+        (End::Quit, 98)
+    }
+}
+
+#[test]
+fn input_cut_at_every_byte(rt: HostRuntime) -> Result<(), Fail> {
+    let alloc = rt.alloc();
+    let text = first_session(alloc)?;
+    let bytes = text.as_bytes();
+    assert_eq!(rt; bytes.len(), 731);
+    assert_eq!(rt; REPLIES.len(), 98);
+    for cut in 0..732usize {
+        let (end, count) = end_of_cut(cut);
+        let given = Vec::from_slice(alloc, &bytes[..cut])?;
+        let (came, written) = served(&rt, alloc, given.as_slice(), 100, &[], &[])?;
+        assert_eq!(rt; came, end, "cut at {cut}");
+        assert_eq!(rt; written.len(), count, "cut at {cut}");
+        assert!(rt;
+            REPLIES.as_bytes().starts_with(written.as_slice()),
+            "cut at {cut}"
+        );
+    }
+    Ok(())
+}
+
+#[test]
+fn faults(rt: HostRuntime) -> Result<(), Fail> {
+    let alloc = rt.alloc();
+    let text = first_session(alloc)?;
+    let (end, written) = served(&rt, alloc, text.as_bytes(), 100, &[0], &[])?;
+    assert_eq!(rt; end, End::ReadFault);
+    assert_eq!(rt; written.len(), 0);
+    for call in 0..3u64 {
+        let (end, written) = served(&rt, alloc, text.as_bytes(), 100, &[], &[call])?;
+        assert_eq!(rt; end, End::WriteFault);
+        assert!(rt; REPLIES.as_bytes().starts_with(written.as_slice()));
+        assert!(rt; written.len() < REPLIES.len());
+    }
+    Ok(())
+}
+
+// 731 bytes are read by the calls 0 to 730. The PUT is whole behind 705 of them, the FLAT behind 726.
+#[test]
+fn one_byte_a_call(rt: HostRuntime) -> Result<(), Fail> {
+    let alloc = rt.alloc();
+    let (end, written) = served_by_bytes(&rt, alloc, 731)?;
+    assert_eq!(rt; end, End::Quit);
+    assert_eq!(rt; written.as_slice(), REPLIES.as_bytes());
+    let rows = [
+        (0, 0),
+        (1, 0),
+        (2, 0),
+        (3, 0),
+        (704, 0),
+        (705, 18),
+        (726, 90),
+        (730, 90),
+    ];
+    for (call, count) in rows {
+        let (end, written) = served_by_bytes(&rt, alloc, call)?;
+        assert_eq!(rt; end, End::ReadFault, "at call {call}");
+        assert_eq!(rt; written.len(), count, "at call {call}");
+        assert!(rt;
+            REPLIES.as_bytes().starts_with(written.as_slice()),
+            "at call {call}"
+        );
+    }
+    Ok(())
+}
+
+#[test]
+fn statuses(rt: HostRuntime) -> Result<(), Fail> {
+    let alloc = rt.alloc();
+    let mut words = Vec::new(alloc);
+    let mut input = MemSource::new(Seq::new(alloc), Seq::new(alloc));
+    let mut output = MemSink::new(alloc, 100, Seq::new(alloc));
+    assert_eq!(rt;
+        run(&rt, alloc, words.as_slice(), &mut input, &mut output),
+        2
+    );
+    assert_eq!(rt;
+        output.written(),
+        "usage: cccgd batch, cccgd serve <addr> <workers> <each>, cccgd gen <seed> <size>\n".as_bytes()
+    );
+    words.push(String::from_str(alloc, "batch")?)?;
+    assert_eq!(rt;
+        run(&rt, alloc, words.as_slice(), &mut input, &mut output),
+        0
+    );
+    let mut cut = MemSource::new(Seq::from_slice(alloc, b"LIS".as_slice())?, Seq::new(alloc));
+    assert_eq!(rt; run(&rt, alloc, words.as_slice(), &mut cut, &mut output), 6);
+    let mut failing = MemSource::new(Seq::new(alloc), Seq::from_slice(alloc, &[0])?);
+    assert_eq!(rt;
+        run(&rt, alloc, words.as_slice(), &mut failing, &mut output),
+        3
+    );
+    words.push(String::from_str(alloc, "x")?)?;
+    assert_eq!(rt;
+        run(&rt, alloc, words.as_slice(), &mut input, &mut output),
+        2
+    );
+    Ok(())
+}
