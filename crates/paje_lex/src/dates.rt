@@ -1,0 +1,169 @@
+ghost use Rattle.std.specs.Prelude.{◌≡◌, ℕ, ◌+◌, ◌*◌, ◌/◌, ◌^◌, ◌<◌, ◌≤◌, ◌==◌, ◌↔◌, ◌⊎◌, ◌++◌, length, drop, take, IsTrue, IfOk, IfSome, Option, Some, None, Err, if◌then◌else◌};
+ghost use Rattle.paje_lex.specs.DateGrammar.{Date, IsDate, date_text, is_minus, tens_of, number, meaning, numerator, denominator};
+ghost use Rattle.paje_lex.specs.DateReading.{date_of, sign_len, exponent_of, exponent_behind, are_exponent_digits, digits_at, places_at, behind_digits};
+ghost use Rattle.paje_lex.specs.DigitsSpec.{Holds};
+ghost use Rattle.std.specs.Option.{option_map};
+
+use crate::digits::Digits;
+use thiserror::Error;
+
+/// The most digits of an exponent.
+const EXPONENT_DIGITS: usize = 4;
+
+/// Why a text is no date that the server takes.
+#[derive(Clone, Copy, Debug, PartialEq, Eq, Error)]
+pub enum DateFault {
+    /// It isn't written as a date.
+    #[error("not a date")]
+    Shape,
+    /// It is below 0.
+    #[error("a date below 0")]
+    Negative,
+    /// It is above 2^62 nanoseconds.
+    #[error("a date above 2^62 nanoseconds")]
+    Big,
+}
+
+fn sign_length(text: &[u8]) -> usize
+    ensures { result ≡ sign_len text.now }
+{
+    match text {
+        [b'+' | b'-', ..] => 1,
+        _ => 0,
+    }
+}
+
+/// The powers of ten that an exponent multiplies and divides by.
+#[derive(Clone, Copy)]
+struct Tens {
+    up: usize,
+    down: usize,
+}
+
+/// The digits of a date, with and without the point, and the text behind them.
+#[derive(Drop)]
+struct Mantissa<'a> {
+    digits: Digits,
+    count: usize,
+    places: usize,
+    rest: &'a [u8],
+}
+
+fn is_negative(text: &[u8]) -> bool
+    ensures { result ≡ is_minus (take (sign_len text.now) text.now) }
+{
+    match text {
+        [b'-', ..] => true,
+        _ => false,
+    }
+}
+
+fn read_mantissa(body: &[u8]) -> Mantissa<'_>
+    ensures number { Holds result.digits (digits_at body.now) }
+    ensures count { result.count ≡ length (digits_at body.now) }
+    ensures places { result.places ≡ places_at body.now }
+    ensures rest { result.rest.now ≡ behind_digits body.now }
+    ensures more { result.digits.more ≤ length body.now }
+{
+    let (whole, count) = Digits::new().read(body);
+    match &body[count..] {
+        [b'.', after @ ..] => {
+            let (digits, places) = whole.read(after);
+            Mantissa {
+                digits,
+                count: count + places,
+                places,
+                rest: &after[places..],
+            }
+        }
+        rest => Mantissa {
+            digits: whole,
+            count,
+            places: 0,
+            rest,
+        },
+    }
+}
+
+fn exponent_size(text: &[u8]) -> Option<usize>
+    ensures size { result ≡ (if are_exponent_digits text.now then Some (number text.now) else None) }
+    ensures small { IfSome result (λ n. n ≤ 30) }
+{
+    let (digits, count) = Digits::new().read(text);
+    if text.is_empty() || text.len() > EXPONENT_DIGITS || count < text.len() {
+        return None;
+    }
+    match digits.scaled(0, 0) {
+        Ok(size) if size <= 30 => Some(size as usize),
+        _ => None,
+    }
+}
+
+/// The sign and the digits behind an exponent's letter.
+fn signed_size(text: &[u8]) -> Option<Tens>
+    ensures tens { option_map {U = ℕ × ℕ} (λ t. (t.up, t.down)) result
+        ≡ option_map (λ e. tens_of (Some e)) (exponent_behind 101 text.now) }
+    ensures small { IfSome result (λ t. (t.up ≤ 30) × (t.down ≤ 30)) }
+{
+    let Some(size) = exponent_size(&text[sign_length(text)..]) else {
+        return None;
+    };
+    if is_negative(text) {
+        return Some(Tens { up: 0, down: size });
+    }
+    Some(Tens { up: size, down: 0 })
+}
+
+fn read_exponent(text: &[u8]) -> Option<Tens>
+    ensures tens { option_map {U = ℕ × ℕ} (λ t. (t.up, t.down)) result
+        ≡ option_map tens_of (exponent_of text.now) }
+    ensures small { IfSome result (λ t. (t.up ≤ 30) × (t.down ≤ 30)) }
+{
+    if text.is_empty() {
+        return Some(Tens { up: 0, down: 0 });
+    }
+    if text[0] != b'e' && text[0] != b'E' {
+        return None;
+    }
+    signed_size(&text[1..])
+}
+
+fn read_date(text: &[u8]) -> Result<u64, DateFault>
+    ensures { result ≡ date_of text.now }
+{
+    let number = read_mantissa(&text[sign_length(text)..]);
+    let Some(tens) = read_exponent(number.rest) else {
+        return Err(DateFault::Shape);
+    };
+    if number.count == 0 {
+        return Err(DateFault::Shape);
+    }
+    if is_negative(text) && !number.digits.is_zero() {
+        return Err(DateFault::Negative);
+    }
+    number.digits.scaled(9 + tens.up, number.places + tens.down)
+}
+
+/// The whole nanoseconds that a date of a trace line means.
+///
+/// A date is a sign or none, decimal digits with at most one point among them, and maybe an exponent: `e` or
+/// `E`, a sign or none, and one to four digits of a number up to 30. Its number counts seconds; what is
+/// behind the last whole nanosecond is dropped. The digits may be of any count. It takes no memory.
+///
+/// # Errors
+///
+/// `Shape` where the text is no date; else `Negative` where the exact number is below 0; else `Big` where
+/// the exact number, with what would be dropped, is above 2^62 nanoseconds.
+pub fn date(text: &[u8]) -> Result<u64, DateFault>
+    // A text that isn't refused for its shape is a date.
+    ensures found { (result ≡ Err DateFault.Shape) ⊎ ((d : Date) × IsDate d × (text.now ≡ date_text d)) }
+    // A date has its meaning, whichever parts it is read as.
+    ensures only { (d : Date) → IsDate d → text.now ≡ date_text d → result ≡ meaning d }
+    ensures shape { result ≡ Err DateFault.Shape → (d : Date) → IsDate d → text.now ≡ date_text d → ⊥ }
+    // The nanoseconds are the last whole ones that aren't above the exact number.
+    ensures value { IfOk result (λ ns. (d : Date) → IsDate d → text.now ≡ date_text d
+        → (ns * denominator d ≤ numerator d) × (numerator d < (ns + 1) * denominator d)) }
+    ensures exact { result ≡ date_of text.now }
+{
+    read_date(text)
+}
