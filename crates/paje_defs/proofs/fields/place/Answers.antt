@@ -1,0 +1,12 @@
+use Rattle.std.proofs.Common.{◌≡◌, List, ℕ, Option, Some, sym, ◌∙◌, ap, position}
+use Rattle.paje_defs.specs.declared.names.FieldName.{FieldName}
+use Rattle.paje_defs.specs.Places.{is_named, first_name, second_name, place_of_name, place_or}
+use Rattle.paje_defs.proofs.fields.place.Goals as goal
+
+pub returns-in-Some-second_name-clause-place : goal.returns-in-Some-second_name-clause-place
+returns-in-Some-second_name-clause-place c =
+    let fields = c.args.fields.now in
+    let second = place_of_name fields (second_name c.args.event c.args.role) in
+    c.position-in-Some-second_name.ensures.place
+    ∙ (ap (place_of_name fields) c.in-Some-second_name.ensures
+    ∙ ap (λ o. place_or o second) (c.in-None.ensures.place ∙ ap (λ name. position (is_named name) fields) c.first_name.ensures))

@@ -1,0 +1,116 @@
+-- What an event line tells under the definitions.
+use Rattle.std.specs.Prelude.{◌≡◌, ℕ, ◌+◌, List, length, slice_get, Option, Some, None, Ok, Err, Result, MatchResult, if◌then◌else◌, nat_lt}
+use Rattle.std.specs.Option.{option_copied}
+use Rattle.paje_lex.specs.declared.dates.DateFault.{DateFault}
+use Rattle.paje_lex.specs.DateReading.{date_of}
+use Rattle.paje_defs.specs.declared.names.EventName.{EventName}
+use Rattle.paje_defs.specs.declared.names.EventName.TheVariants as events
+use Rattle.paje_defs.specs.declared.names.FieldType.{FieldType}
+use Rattle.paje_defs.specs.declared.names.FieldType.TheVariants as types
+use Rattle.paje_defs.specs.declared.names.Role.{Role}
+use Rattle.paje_defs.specs.declared.names.Role.TheVariants as roles
+use Rattle.paje_defs.specs.declared.fields.Field.{Field}
+use Rattle.paje_defs.specs.declared.table.Definition.{Definition}
+use Rattle.paje_defs.specs.declared.event.EventFault.{EventFault}
+use Rattle.paje_defs.specs.declared.event.EventFault.TheVariants as faults
+use Rattle.paje_defs.specs.declared.event.Texts.{Texts}
+use Rattle.paje_defs.specs.declared.event.Fields.{Fields}
+use Rattle.paje_defs.specs.Numbers.{event_number_of, size_of}
+use Rattle.paje_defs.specs.Places.{place_of}
+use Rattle.paje_defs.specs.Table.{definition_of}
+
+-- the text of the field at a place: the first token is the number
+abbrev pub text_at : List (List ℕ) → Option ℕ → Option (List ℕ)
+text_at words None = None
+text_at words (Some place) = slice_get words (place + 1)
+
+-- the text of a role's field
+abbrev pub role_text : Definition → List (List ℕ) → Role → Option (List ℕ)
+role_text d words role = text_at words (place_of d.event d.fields role)
+
+-- ---- the time and the size
+
+-- 0 where the definition has no time
+abbrev pub time_of_text : Option (List ℕ) → Result ℕ DateFault
+time_of_text None = Ok 0
+time_of_text (Some text) = date_of text
+
+-- a text of a field of type int counts as a size, and no other
+abbrev pub typed_size : FieldType → Option (List ℕ) → ℕ
+typed_size types.Int None = 0
+typed_size types.Int (Some text) = size_of text
+typed_size types.Date text = 0
+typed_size types.Double text = 0
+typed_size types.Hex text = 0
+typed_size types.String text = 0
+typed_size types.Color text = 0
+
+abbrev pub field_size : Option Field → Option (List ℕ) → ℕ
+field_size None text = 0
+field_size (Some f) text = typed_size f.kind text
+
+abbrev pub field_at : List Field → Option ℕ → Option Field
+field_at fields None = None
+field_at fields (Some place) = slice_get fields place
+
+-- the size that the field of the role Size tells
+abbrev pub size_in : Definition → List (List ℕ) → ℕ
+size_in d words = field_size (field_at d.fields (place_of d.event d.fields roles.Size)) (role_text d words roles.Size)
+
+-- only the start of a link has one
+abbrev pub message_size : EventName → ℕ → ℕ
+message_size events.StartLink size = size
+message_size _ size = 0
+
+-- ---- the line
+
+-- the definition of an event line, and its time
+pub record Event : Type 0 where
+  pub definition : Definition
+  pub time : ℕ
+
+abbrev pub timed : Definition → Result ℕ DateFault → Result Event EventFault
+timed d (Err f) = Err (faults.Date f)
+timed d (Ok time) = Ok (record { definition = d; time = time })
+
+abbrev pub event_under : List (List ℕ) → Option Definition → Result Event EventFault
+event_under words None = Err faults.UnknownNumber
+event_under words (Some d) = if nat_lt (length d.fields) (length words) then timed d (time_of_text (role_text d words roles.Time)) else Err faults.TooFew
+
+abbrev pub event_numbered : List (ℕ × Definition) → List (List ℕ) → Option ℕ → Result Event EventFault
+event_numbered entries words None = Err faults.NoNumber
+event_numbered entries words (Some number) = event_under words (definition_of entries number)
+
+abbrev pub number_in : Option (List ℕ) → Option ℕ
+number_in None = None
+number_in (Some text) = event_number_of text
+
+-- the definition and the time of an event line with these words, or why it is refused
+abbrev pub event_of : List (ℕ × Definition) → List (List ℕ) → Result Event EventFault
+event_of entries words = event_numbered entries words (number_in (slice_get words 0))
+
+-- ---- what a call gives
+
+abbrev pub text_of : Texts → Role → Option (List ℕ)
+text_of t roles.Time = option_copied t.time
+text_of t roles.Alias = option_copied t.alias
+text_of t roles.Kind = option_copied t.kind
+text_of t roles.Name = option_copied t.name
+text_of t roles.Holder = option_copied t.holder
+text_of t roles.Value = option_copied t.value
+text_of t roles.Key = option_copied t.key
+text_of t roles.FromKind = option_copied t.from_kind
+text_of t roles.ToKind = option_copied t.to_kind
+text_of t roles.From = option_copied t.from
+text_of t roles.To = option_copied t.to
+text_of t roles.Size = option_copied t.size
+
+-- the fields are those of an event with these words
+pub record AreFields (words : List (List ℕ)) (d : Definition) (f : Fields) : Type 0 where
+  pub kind : f.kind ≡ d.event
+  pub size : f.size ≡ message_size d.event (size_in d words)
+  pub texts : (role : Role) → text_of f.texts role ≡ role_text d words role
+
+-- the fields of the event that the line tells, or why it tells none
+abbrev pub Tells : List (List ℕ) → Result Fields EventFault → Result Event EventFault → Type 0
+Tells words r wanted = MatchResult r (λ f. (e : Event) × (wanted ≡ Ok e) × (f.time ≡ e.time) × AreFields words e.definition f) (λ fault. wanted ≡ Err fault)

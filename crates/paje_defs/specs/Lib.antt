@@ -1,0 +1,6 @@
+pub mod Events
+pub mod Names
+pub mod Numbers
+pub mod Places
+pub mod Table
+pub mod Texts

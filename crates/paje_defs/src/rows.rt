@@ -1,0 +1,100 @@
+//! Worked rows: what the definitions give on lines whose meaning is known.
+
+ghost use Rattle.std.specs.Prelude.{◌≡◌, [], ◌∷◌, ◌++◌, map, codes, Some, None, Ok, Err};
+ghost use Rattle.paje_defs.specs.Names.{all_events};
+ghost use Rattle.paje_defs.specs.Places.{missing, place_of};
+ghost use Rattle.paje_defs.specs.Numbers.{size_of, event_number_of};
+ghost use Rattle.paje_defs.specs.Texts.{complete_in, defined, defs_in, field_as, event_defs, refusal_of, told_of};
+
+use crate::event::EventFault;
+use crate::names::{EventName, FieldName, FieldType, Role};
+use crate::table::DefFault;
+use paje_lex::DateFault;
+
+/// Six definitions, one after another.
+pub fn definition_rows()
+    ensures { complete_in (defs_in (
+        codes "%EventDef PajeDefineContainerType 0" ∷ codes "% Alias string" ∷ codes "% Type string" ∷
+        codes "% Name string" ∷ codes "%EndEventDef" ∷ codes "%EventDef PajeDefineStateType 1" ∷
+        codes "% Alias string" ∷ codes "% Type string" ∷ codes "% Name string" ∷ codes "%EndEventDef" ∷
+        codes "%EventDef PajeCreateContainer 2" ∷ codes "% Time date" ∷ codes "% Alias string" ∷
+        codes "% Type string" ∷ codes "% Container string" ∷ codes "% Name string" ∷ codes "%EndEventDef" ∷
+        codes "%EventDef PajeDestroyContainer 3" ∷ codes "% Time date" ∷ codes "% Type string" ∷
+        codes "% Name string" ∷ codes "%EndEventDef" ∷ codes "%EventDef PajePushState 4" ∷
+        codes "% Time date" ∷ codes "% Type string" ∷ codes "% Container string" ∷ codes "% Value string" ∷
+        codes "%EndEventDef" ∷ codes "%EventDef PajePopState 5" ∷ codes "% Time date" ∷
+        codes "% Type string" ∷ codes "% Container string" ∷ codes "%EndEventDef" ∷ []))
+        ≡ defined 0 1 EventName.DefineContainerType (field_as FieldName.Alias FieldType.String ∷ field_as FieldName.Type FieldType.String ∷ field_as FieldName.Name FieldType.String ∷ [])
+        ∷ defined 1 6 EventName.DefineStateType (field_as FieldName.Alias FieldType.String ∷ field_as FieldName.Type FieldType.String ∷ field_as FieldName.Name FieldType.String ∷ [])
+        ∷ defined 2 11 EventName.CreateContainer (field_as FieldName.Time FieldType.Date ∷ field_as FieldName.Alias FieldType.String ∷ field_as FieldName.Type FieldType.String ∷ field_as FieldName.Container FieldType.String ∷ field_as FieldName.Name FieldType.String ∷ [])
+        ∷ defined 3 18 EventName.DestroyContainer (field_as FieldName.Time FieldType.Date ∷ field_as FieldName.Type FieldType.String ∷ field_as FieldName.Name FieldType.String ∷ [])
+        ∷ defined 4 23 EventName.PushState (field_as FieldName.Time FieldType.Date ∷ field_as FieldName.Type FieldType.String ∷ field_as FieldName.Container FieldType.String ∷ field_as FieldName.Value FieldType.String ∷ [])
+        ∷ defined 5 29 EventName.PopState (field_as FieldName.Time FieldType.Date ∷ field_as FieldName.Type FieldType.String ∷ field_as FieldName.Container FieldType.String ∷ []) ∷ [] }
+{}
+
+/// The first missing role of each event without fields, and of some with fields.
+pub fn missing_rows()
+    ensures none { map (λ e. missing e []) all_events ≡
+        Some Role.Kind ∷ Some Role.Kind ∷ Some Role.Kind ∷ Some Role.Kind ∷ Some Role.Kind ∷
+        Some Role.Kind ∷ Some Role.Time ∷ Some Role.Time ∷ Some Role.Time ∷ Some Role.Time ∷
+        Some Role.Time ∷ Some Role.Time ∷ Some Role.Time ∷ Some Role.Time ∷ Some Role.Time ∷
+        Some Role.Time ∷ Some Role.Time ∷ Some Role.Time ∷ [] }
+    ensures some { missing EventName.DefineLinkType (field_as FieldName.ContainerType FieldType.String ∷ field_as FieldName.SourceContainerType FieldType.String ∷ field_as FieldName.Name FieldType.String ∷ []) ≡ Some Role.ToKind }
+    ensures container { missing EventName.DestroyContainer (field_as FieldName.Time FieldType.Date ∷ field_as FieldName.Container FieldType.String ∷ []) ≡ None }
+    ensures value { missing EventName.PushState (field_as FieldName.Time FieldType.Date ∷ field_as FieldName.Type FieldType.String ∷ field_as FieldName.Container FieldType.String ∷ []) ≡ Some Role.Value }
+{}
+
+/// Which field has a role.
+pub fn place_rows()
+    ensures doubled { place_of EventName.PopState (field_as FieldName.Time FieldType.Date ∷ field_as FieldName.Type FieldType.String ∷ field_as FieldName.Time FieldType.Date ∷ []) Role.Time ≡ Some 0 }
+    ensures preferred { place_of EventName.StartLink (field_as FieldName.SourceContainer FieldType.String ∷ field_as FieldName.StartContainer FieldType.String ∷ []) Role.From ≡ Some 1 }
+    ensures container_type { place_of EventName.DefineStateType (field_as FieldName.Name FieldType.String ∷ field_as FieldName.ContainerType FieldType.String ∷ []) Role.Kind ≡ Some 1 }
+    ensures no_container_type { place_of EventName.PushState (field_as FieldName.ContainerType FieldType.String ∷ []) Role.Kind ≡ None }
+    ensures named { place_of EventName.DestroyContainer (field_as FieldName.Container FieldType.String ∷ field_as FieldName.Name FieldType.String ∷ []) Role.Name ≡ Some 1 }
+    ensures additional { place_of EventName.PopState (field_as FieldName.Other FieldType.Hex ∷ field_as FieldName.Container FieldType.String ∷ []) Role.Holder ≡ Some 1 }
+{}
+
+/// Lines that are refused, and some that aren't.
+pub fn refusal_rows()
+    ensures { map refusal_of ((codes "%" ∷ [])
+        ∷ (codes "% Time" ∷ [])
+        ∷ (codes "% Time date" ∷ [])
+        ∷ (codes "%EventDef PajePopState" ∷ [])
+        ∷ (codes "%EventDef PajePopState x" ∷ [])
+        ∷ (codes "%EventDef PajePopState 12345678901" ∷ [])
+        ∷ (codes "%EventDef PajePopState 4294967296" ∷ [])
+        ∷ (codes "%EventDef PajePopState 4294967295" ∷ [])
+        ∷ (codes "%EventDef PajePopState 1" ∷ codes "%EventDef Paje 2" ∷ [])
+        ∷ (codes "%EventDef PajeStrange 1" ∷ [])
+        ∷ (codes "%EventDef PajeNewEvent 1" ∷ codes "% Time date" ∷ codes "%EndEventDef" ∷ codes "%EventDef PajePopState 1" ∷ [])
+        ∷ (codes "%EventDef PajePopState 1" ∷ codes "% Time" ∷ codes "%EndEventDef" ∷ [])
+        ∷ (codes "%EventDef PajePopState 1" ∷ codes "% Time time" ∷ [])
+        ∷ (codes "%EndEventDef" ∷ [])
+        ∷ (codes "%EventDef PajePopState 1" ∷ codes "% Time string" ∷ codes "% Type string" ∷ codes "%EndEventDef" ∷ []) ∷ [])
+        ≡ Some DefFault.Shape ∷ Some DefFault.Shape ∷ Some DefFault.Shape ∷ Some DefFault.Shape ∷
+        Some DefFault.Shape ∷ Some DefFault.Shape ∷ Some DefFault.Shape ∷ None ∷ Some DefFault.Nested ∷
+        Some DefFault.UnknownName ∷ (Some (DefFault.DoubleNumber 1)) ∷ Some DefFault.Shape ∷
+        Some DefFault.UnknownType ∷ Some DefFault.Shape ∷ (Some (DefFault.MissingField Role.Holder)) ∷ [] }
+{}
+
+/// Event lines under a few definitions.
+pub fn event_rows()
+    ensures link { told_of event_defs (Role.Time ∷ Role.Kind ∷ Role.From ∷ Role.Key ∷ Role.Value ∷ []) (codes "7 1 ff K a b k +50") ≡ Ok (1000000000, 50, Some (codes "1") ∷ Some (codes "K") ∷ Some (codes "b") ∷ Some (codes "k") ∷ None ∷ []) }
+    ensures other_order { told_of event_defs (Role.Size ∷ Role.Key ∷ []) (codes "8 k K 50 a .5") ≡ Ok (500000000, 0, Some (codes "50") ∷ Some (codes "k") ∷ []) }
+    ensures destroyed { told_of event_defs (Role.Name ∷ Role.Holder ∷ []) (codes "9 c 2 n more") ≡ Ok (2000000000, 0, Some (codes "n") ∷ Some (codes "c") ∷ []) }
+    ensures no_number { told_of event_defs [] (codes "x") ≡ Err EventFault.NoNumber }
+    ensures long_number { told_of event_defs [] (codes "12345678901 1") ≡ Err EventFault.NoNumber }
+    ensures unknown { told_of event_defs [] (codes "6 1") ≡ Err EventFault.UnknownNumber }
+    ensures too_few { told_of event_defs [] (codes "9 c 2") ≡ Err EventFault.TooFew }
+    ensures negative { told_of event_defs [] (codes "9 c -2 n") ≡ Err (EventFault.Date DateFault.Negative) }
+    ensures shape { told_of event_defs [] (codes "7 x ff K a b k 1") ≡ Err (EventFault.Date DateFault.Shape) }
+{}
+
+/// Sizes and numbers.
+pub fn number_rows()
+    ensures sizes { map size_of (codes "7" ∷ codes "+7" ∷ codes "-7" ∷ [] ∷ codes "+" ∷ codes "9223372036854775807"
+        ∷ codes "9223372036854775808" ∷ codes "00000000000000000001" ∷ codes "0000000000000000001" ∷ codes "1e3" ∷ [])
+        ≡ 7 ∷ 7 ∷ 0 ∷ 0 ∷ 0 ∷ 9223372036854775807 ∷ 0 ∷ 0 ∷ 1 ∷ 0 ∷ [] }
+    ensures numbers { map event_number_of (codes "0" ∷ codes "4294967295" ∷ codes "0000000001" ∷ codes "+1" ∷ [] ∷ [])
+        ≡ Some 0 ∷ Some 4294967295 ∷ Some 1 ∷ None ∷ None ∷ [] }
+{}
