@@ -24,6 +24,7 @@ pub struct Digits {
 impl Digits {
     ghost use Rattle.paje_lex.specs.DigitsSpec.{Holds};
 
+    /// No digits, which is the number 0.
     pub fn new() -> Digits
         ensures number { Holds result [] }
         ensures none { result.more ≡ 0 }
