@@ -1,9 +1,14 @@
 pub mod Flat
+pub mod FoldRows
 pub mod Info
+pub mod Matrix
 pub mod MemSink
 pub mod MemSource
+pub mod Messages
 pub mod Outside
+pub mod Paths
 pub mod Rows
 pub mod Sink
 pub mod Source
 pub mod Stream
+pub mod Timeline

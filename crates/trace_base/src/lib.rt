@@ -4,7 +4,9 @@
 
 mod asks;
 mod faults;
+mod fold_rows;
 mod limits;
+mod matrix;
 mod mem_sink;
 mod mem_source;
 mod memory;
@@ -17,6 +19,8 @@ mod seq;
 mod sink;
 mod source;
 mod stream;
+#[cfg(test)]
+mod tests;
 mod text;
 
 pub use asks::{AskIds, PassState};
@@ -26,6 +30,7 @@ pub use limits::{
     MAX_PLACES, MAX_REQUEST_LINE, MAX_STATE_EVENTS, MAX_TEXT, MAX_TIME, MAX_TRACE_LINE, MAX_TRACKS,
     MAX_TYPES, MAX_VALUES,
 };
+pub use matrix::{Matrix, MatrixRow};
 pub use mem_sink::MemSink;
 pub use mem_source::MemSource;
 pub use memory::Memory;

@@ -17,7 +17,7 @@ pub struct MemSource {
 impl MemSource {
     ghost use Rattle.trace_base.specs.MemSource.{bytes_left, fault_count};
 
-    /// A source that gives these bytes. `fails` lists the calls, numbered from 0, that fail.
+    /// A source that gives these bytes. The calls whose numbers, counted from 0, stand in `fails` are faults.
     pub fn new(bytes: Seq<u8>, fails: Seq<u64>) -> MemSource
         ensures left { bytes_left result ≡ bytes }
         ensures faults { fault_count result ≡ 0 }

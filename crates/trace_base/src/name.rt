@@ -19,7 +19,7 @@ impl Model for Name {
 }
 
 impl Name {
-    /// A name of these bytes.
+    /// A name of these bytes; `Memory` where none was found for them.
     pub fn from_bytes(alloc: Global, bytes: &[u8]) -> Result<Name, Memory>
         ensures { IfOk result (λ n. n ≡ bytes.now) }
     {

@@ -112,7 +112,7 @@ impl<T: Drop> Seq<T> {
 }
 
 impl<T: Copy> Seq<T> {
-    /// A list of these items.
+    /// A list of these items; `Memory` where none was found for them.
     pub fn from_slice(alloc: Global, items: &[T]) -> Result<Seq<T>, Memory>
         ensures { IfOk result (λ s. s ≡ items.now) }
     {
