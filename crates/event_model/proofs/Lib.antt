@@ -1,3 +1,4 @@
 pub mod Legal
 pub mod Lists
+pub mod PathRows
 pub mod Times

@@ -1,9 +1,10 @@
 -- Sums and folds over a list that is made from another one, one item more.
-use Rattle.std.proofs.Common.{◌≡◌, ℕ, ◌+◌, ◌<◌, List, [], ◌∷◌, ◌++◌, length, take, get_or, map, fold, filter, sum_by, Bool, true, false, cond, refl, ap, ◌∙◌, zero-add, append-nil}
+use Rattle.std.proofs.Common.{◌≡◌, ℕ, ◌+◌, ◌<◌, zero, suc, add-zero, add-one, count_by, List, [], ◌∷◌, ◌++◌, length, take, get_or, map, fold, filter, sum_by, Bool, true, false, cond, refl, ap, sym, arith, ◌∙◌, zero-add, append-nil}
 use Rattle.std.proofs.lemmas.List.{take_more}
 use Rattle.std.specs.List.{range_with_len}
-use Rattle.std.proofs.lemmas.List.FromFn.{filter_of_map_range_with_len_more}
+use Rattle.std.proofs.lemmas.List.FromFn.{filter_of_map_range_with_len_more, map-range_with_len_more}
 use Rattle.std.proofs.lemmas.List.Sums.{fold_push, sum_by_push}
+use Rattle.trace_base.proofs.Ranges.{range_with_len-more}
 
 map-push : {X Y : Type 0} (g : X → Y) (xs : List X) (x : X) → map g (xs ++ x ∷ []) ≡ map g xs ++ g x ∷ []
 map-push g [] x = refl
@@ -30,3 +31,10 @@ filter_of_range-kept p f a n j x xs ys e h k t m = rw (filter_of_map_range_with_
 
 pub filter_of_range-left : {X : Type 0} (p : X → Bool) (f : ℕ → X) (a n j : ℕ) (x : X) (xs : List X) → a + n ≡ j → xs ≡ filter p (map f (range_with_len a n)) → x ≡ f j → p x ≡ false → xs ≡ filter p (map f (range_with_len a (n + 1)))
 filter_of_range-left p f a n j x xs e h k t = rw (filter_of_map_range_with_len_more p f a n j e, ← k, t, append-nil) h
+
+-- one more number of a range, each made into an item
+pub map_of_range-more : {X : Type 0} (f : ℕ → X) (a n j : ℕ) (x : X) (xs ys : List X) → a + n ≡ j → xs ≡ map f (range_with_len a n) → x ≡ f j → ys ≡ xs ++ x ∷ [] → ys ≡ map f (range_with_len a (n + 1))
+map_of_range-more f a n j x xs ys e k h m = rw (map-range_with_len_more f a n j e, ← k, ← h) m
+
+pub count_by-range-more : (p : ℕ → Bool) (n : ℕ) → count_by p (range_with_len 0 (n + 1)) ≡ count_by p (range_with_len 0 n) + cond (p n) 1 0
+count_by-range-more p n = ap (count_by p) (range_with_len-more 0 n n (omega arith)) ∙ sum_by_push (λ x. cond (p x) 1 0) (range_with_len 0 n) n

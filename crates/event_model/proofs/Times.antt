@@ -1,6 +1,6 @@
 -- The time in which the call stack has a property, piece by piece, and why the sums fit: the pieces of a legal
 -- stream lie one after the other between its start and its end.
-use Rattle.std.proofs.Common.{◌≡◌, ℕ, ◌+◌, ◌-◌, ◌^◌, ◌<◌, ◌≤◌, zero, suc, List, [], ◌∷◌, ◌++◌, length, take, get_or, slice_index, map, filter, sum_by, min, max, Bool, true, false, cond, refl, ap, sym, subst, ◌∙◌, zero-add, add-one, arith, length-append}
+use Rattle.std.proofs.Common.{◌≡◌, ℕ, ◌+◌, ◌-◌, ◌^◌, ◌<◌, ◌≤◌, zero, suc, List, [], ◌∷◌, ◌++◌, length, take, get_or, slice_index, map, filter, sum_by, min, max, Bool, true, false, cond, refl, ap, sym, subst, ◌∙◌, zero-add, add-one, arith, length-append, slice_get, Option, Some, ◌&&◌, nat_le, nat_lt}
 use Rattle.std.specs.List.{range_with_len}
 use Rattle.std.proofs.Math.ListN.{get_or-append}
 use Rattle.std.proofs.Math.Seq.{get_or-append_seam}
@@ -8,6 +8,9 @@ use Rattle.std.proofs.lemmas.List.{get_or-map, length-map}
 use Rattle.std.proofs.lemmas.List.FromFn.{filter_of_map_range_with_len_more}
 use Rattle.std.proofs.lemmas.List.Sums.{sum_by-append, sum_by-le-sum_by, fold_more, length-filter}
 use Rattle.trace_base.specs.Flat.{clip, enters_in, time_with, calls_in}
+use Rattle.std.specs.Option.{option_map_or}
+use Rattle.std.proofs.lemmas.Option.{slice_get-get_or}
+use Rattle.trace_base.specs.Paths.{makes}
 use Rattle.trace_base.specs.Stream.{time_of, is_enter, stack_step, stack_after, moments, piece, pieces, IsLegal}
 use Rattle.trace_base.specs.declared.stream.Event.{Event}
 use Rattle.trace_base.specs.declared.stream.Event.TheVariants.{Enter, Leave}
@@ -106,3 +109,12 @@ pub stack-read : (es items : List Event) (n : ℕ) (d : Event) (stack new : List
 stack-read es items n d stack new e h k m =
     let short : n < length es = subst (λ (xs : List Event). n < length xs) e h in
     m ∙ ap (λ (st : List ℕ). stack_step st (get_or items n d)) k ∙ ap (λ (xs : List Event). stack_step (stack_after (take n es)) (get_or xs n d)) e ∙ sym (stack_after-suc es n d short)
+
+-- one event more in the calls that make a call stack with the property, in the words of the pass
+pub calls_making-step : (has : List ℕ → Bool) (a b : ℕ) (s : TrackStream) (items : List Event) (n : ℕ) (d : Event) (stack : List ℕ) → items ≡ s.events → n < length items → stack ≡ stack_after (take (n + 1) s.events)
+    → makes has a b s n ≡ ((is_enter (get_or items n d) && (nat_le a (time_of (get_or items n d)) && nat_lt (time_of (get_or items n d)) b)) && has stack)
+calls_making-step has a b s items n d stack e h k =
+    let short : n < length s.events = subst (λ (xs : List Event). n < length xs) e h in
+    let found : slice_get s.events n ≡ Some (get_or items n d) = slice_get-get_or s.events n d short ∙ ap (λ (xs : List Event). Some (get_or xs n d)) (sym e) in
+    ap (λ (o : Option Event). option_map_or (λ x. is_enter x && (nat_le a (time_of x) && nat_lt (time_of x) b)) o false && has (stack_after (take (n + 1) s.events))) found
+    ∙ ap (λ (st : List ℕ). (is_enter (get_or items n d) && (nat_le a (time_of (get_or items n d)) && nat_lt (time_of (get_or items n d)) b)) && has st) (sym k)

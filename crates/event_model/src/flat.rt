@@ -13,13 +13,13 @@ use trace_base::{Memory, Profile, Row, Seq, TrackStream};
 fn time_over(
     alloc: Global,
     streams: &[&TrackStream],
-    part: Part,
+    part: Part<'_>,
     a: u64,
     b: u64,
 ) -> Result<u128, Memory>
     requires legal { All (λ s. IsLegal s.now) streams.now }
     requires few { length streams.now ≤ 4096 }
-    ensures { IfOk result (λ t. t ≡ sum_by (time_with (has part) a b) (map (λ s. s.now) streams.now)) }
+    ensures { IfOk result (λ t. t ≡ sum_by (time_with (has part.entry) a b) (map (λ s. s.now) streams.now)) }
 {
     let mut total = 0u128;
     for s in streams {
@@ -77,7 +77,7 @@ fn is_told(row: &Row) -> bool
 
 /// The flat profile of several legal streams over [a, b), half open and in nanoseconds, their numbers added:
 /// a row for each function that began a call in it or had one open, rising by function. A call that is open
-/// within a call of the same function counts its time once in `incl`.
+/// within a call of the same function counts its time once in `incl`. `Memory` where none was found.
 #[tactic(auto, unfolding(trace_base::specs::Flat::flat))]
 pub fn flat_of_all(
     alloc: Global,

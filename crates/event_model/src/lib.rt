@@ -3,9 +3,13 @@
 #![tactic(auto)]
 
 mod flat;
+mod line;
 mod part;
 mod pass;
+mod paths;
 #[cfg(test)]
 mod tests;
 
 pub use flat::{flat_of, flat_of_all};
+pub use line::line_of;
+pub use paths::paths_of;

@@ -1,8 +1,9 @@
 //! One pass over the events of one stream.
-ghost use Rattle.std.specs.Prelude.{◌≡◌, ◌+◌, ◌-◌, ◌^◌, ◌≤◌, min, max, fold, count_by, IfOk, OnOk, if◌then◌else◌};
+ghost use Rattle.std.specs.Prelude.{◌≡◌, ◌+◌, ◌-◌, ◌^◌, ◌≤◌, min, max, fold, count_by, IfOk, OnOk, if◌then◌else◌, ◌&&◌, nat_le, nat_lt};
 ghost use Rattle.event_model.specs.Part.{has};
 ghost use Rattle.trace_base.specs.Flat.{enters_in, function_of, time_with, calls_in};
-ghost use Rattle.trace_base.specs.Stream.{time_of, stack_step, IsLegal};
+ghost use Rattle.trace_base.specs.Paths.{calls_making};
+ghost use Rattle.trace_base.specs.Stream.{time_of, is_enter, stack_step, IsLegal};
 
 use crate::part::{Part, runs};
 use std::alloc::Global;
@@ -41,7 +42,7 @@ fn step(stack: &mut Vec<u32>, event: Event) -> Result<(), Memory>
     Ok(())
 }
 
-/// How long [from, to) and [a, b) have in common.
+/// The length of the overlap of [from, to) and [a, b).
 fn clip_of(from: u64, to: u64, a: u64, b: u64) -> u64
     ensures { result ≡ min to b - max from a }
 {
@@ -49,8 +50,8 @@ fn clip_of(from: u64, to: u64, a: u64, b: u64) -> u64
 }
 
 /// What the time from `from` to `to` with this call stack adds to the part's time within [a, b).
-fn time_here(part: Part, stack: &[u32], from: u64, to: u64, a: u64, b: u64) -> u64
-    ensures { result ≡ (if has part stack.now then min to b - max from a else 0) }
+fn time_here(part: Part<'_>, stack: &[u32], from: u64, to: u64, a: u64, b: u64) -> u64
+    ensures { result ≡ (if has part.entry stack.now then min to b - max from a else 0) }
 {
     if runs(part, stack) {
         clip_of(from, to, a, b)
@@ -60,9 +61,15 @@ fn time_here(part: Part, stack: &[u32], from: u64, to: u64, a: u64, b: u64) -> u
 }
 
 /// The time within [a, b) in which the part runs, in nanoseconds.
-pub fn time_in(alloc: Global, s: &TrackStream, part: Part, a: u64, b: u64) -> Result<u64, Memory>
+pub fn time_in(
+    alloc: Global,
+    s: &TrackStream,
+    part: Part<'_>,
+    a: u64,
+    b: u64,
+) -> Result<u64, Memory>
     requires { IsLegal s.now }
-    ensures exact { IfOk result (λ t. t ≡ time_with (has part) a b s.now) }
+    ensures exact { IfOk result (λ t. t ≡ time_with (has part.entry) a b s.now) }
     ensures within_limit { IfOk result (λ t. t ≤ 2 ^ 62) }
 {
     let mut stack = Vec::new(alloc);
@@ -113,4 +120,43 @@ pub fn greatest_in(s: &TrackStream, so_far: u32) -> u32
         greatest = greatest.max(function(*event));
     }
     greatest
+}
+
+/// Whether the event begins a call within [a, b).
+fn begins_within(event: Event, a: u64, b: u64) -> bool
+    ensures { result ≡ (is_enter event && (nat_le a (time_of event) && nat_lt (time_of event) b)) }
+{
+    match event {
+        Event::Enter(_, t) => a <= t && t < b,
+        Event::Leave(_) => false,
+    }
+}
+
+/// One where the event begins a call within [a, b) after which the part runs, else none.
+fn call_into(event: Event, part: Part<'_>, stack: &[u32], a: u64, b: u64) -> u64
+    ensures exact { result ≡ (if (is_enter event && (nat_le a (time_of event) && nat_lt (time_of event) b)) && has part.entry stack.now then 1 else 0) }
+    ensures one { result ≤ 1 }
+{
+    u64::from(begins_within(event, a, b) && runs(part, stack))
+}
+
+/// The calls that begin within [a, b) and after which the part runs.
+#[tactic(auto, unfolding(trace_base::specs::Paths::calls_making))]
+pub fn calls_into(
+    alloc: Global,
+    s: &TrackStream,
+    part: Part<'_>,
+    a: u64,
+    b: u64,
+) -> Result<u64, Memory>
+    ensures { IfOk result (λ n. n ≡ calls_making (has part.entry) a b s.now) }
+{
+    let mut stack = Vec::new(alloc);
+    let mut calls = 0;
+    let events = s.events.as_slice();
+    for event in events {
+        step(&mut stack, *event)?;
+        calls += call_into(*event, part, stack.as_slice(), a, b);
+    }
+    Ok(calls)
 }

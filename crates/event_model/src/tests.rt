@@ -1,10 +1,10 @@
 ghost use Rattle.std.specs.Prelude.{IfOk};
 ghost use Rattle.trace_base.specs.Stream.{IsLegal};
 
-use crate::{flat_of, flat_of_all};
+use crate::{flat_of, flat_of_all, line_of, paths_of};
 use std::alloc::Global;
 use std::test::Fail;
-use trace_base::{Event, Memory, Profile, Row, Seq, TrackStream};
+use trace_base::{Event, Memory, PathRow, Profile, Row, Seq, TrackStream};
 
 /// A stream that is legal.
 fn two_calls(alloc: Global) -> Result<TrackStream, Memory>
@@ -114,5 +114,55 @@ fn flat_profiles(rt: HostRuntime) -> Result<(), Fail> {
     // Over two streams the numbers are added.
     let both = flat_of_all(rt.alloc(), &[&r, &z], 0, 10)?;
     assert!(rt; is(&both, 10, &[row(1, 2, 10, 10)]));
+    Ok(())
+}
+
+#[test]
+fn timelines(rt: HostRuntime) -> Result<(), Fail> {
+    let s = two_calls(rt.alloc())?;
+    assert_eq!(rt;
+        line_of(rt.alloc(), &s, 0, 500_000_000, 5)?.as_slice(),
+        [1, 2, 1, 2, 1].as_slice()
+    );
+    // The two functions tie.
+    assert_eq!(rt;
+        line_of(rt.alloc(), &s, 0, 200_000_000, 1)?.as_slice(),
+        [1].as_slice()
+    );
+    assert_eq!(rt;
+        line_of(rt.alloc(), &s, 0, 3, 3)?.as_slice(),
+        [1, 1, 1].as_slice()
+    );
+    // A call of no length is not shown.
+    let z = no_length(rt.alloc())?;
+    assert_eq!(rt;
+        line_of(rt.alloc(), &z, 10, 20, 1)?.as_slice(),
+        [0].as_slice()
+    );
+    Ok(())
+}
+
+#[test]
+fn path_profiles(rt: HostRuntime) -> Result<(), Fail> {
+    let r = recursion(rt.alloc())?;
+    let profile = paths_of(rt.alloc(), &r, 0, 10)?;
+    let rows = [
+        PathRow {
+            depth: 1,
+            func: 1,
+            calls: 1,
+            incl: 10,
+            excl: 8,
+        },
+        PathRow {
+            depth: 2,
+            func: 1,
+            calls: 1,
+            incl: 2,
+            excl: 2,
+        },
+    ];
+    assert_eq!(rt; profile.rows.as_slice(), rows.as_slice());
+    assert!(rt; profile.bare == 0);
     Ok(())
 }
