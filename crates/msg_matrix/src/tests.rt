@@ -1,0 +1,79 @@
+use crate::matrix;
+use std::alloc::Global;
+use std::test::Fail;
+use trace_base::{MatrixRow, Memory, Message, MsgTable, Seq};
+
+fn table(alloc: Global, messages: &[Message]) -> Result<MsgTable, Memory> {
+    Ok(MsgTable {
+        messages: Seq::from_slice(alloc, messages)?,
+        unmatched: 0,
+    })
+}
+
+fn message(from: u32, to: u32, send: u64, receive: u64, size: u64) -> Message {
+    Message {
+        from,
+        to,
+        send,
+        receive,
+        size,
+    }
+}
+
+#[test]
+fn matrices(rt: HostRuntime) -> Result<(), Fail> {
+    let alloc = rt.alloc();
+    let both = table(
+        alloc,
+        &[
+            message(1, 2, 1_000_000_000, 1_500_000_000, 100),
+            message(2, 1, 3_000_000_000, 2_500_000_000, 7),
+        ],
+    )?;
+    let there = MatrixRow {
+        from: 1,
+        to: 2,
+        count: 1,
+        bytes: 100,
+        transit: 500_000_000,
+        greatest: 500_000_000,
+        backward: 0,
+    };
+    let back = MatrixRow {
+        from: 2,
+        to: 1,
+        count: 1,
+        bytes: 7,
+        transit: 0,
+        greatest: 0,
+        backward: 1,
+    };
+    assert_eq!(rt;
+        matrix(alloc, &both, 0, 4_000_000_000)?.rows.as_slice(),
+        [there, back].as_slice()
+    );
+    assert_eq!(rt; matrix(alloc, &both, 0, 1_000_000_000)?.rows.len(), 0);
+
+    let one_pair = table(
+        alloc,
+        &[
+            message(3, 4, 5, 30, 2),
+            message(3, 4, 5, 6, 4),
+            message(3, 4, 10, 20, 0),
+        ],
+    )?;
+    let two = MatrixRow {
+        from: 3,
+        to: 4,
+        count: 2,
+        bytes: 6,
+        transit: 26,
+        greatest: 25,
+        backward: 0,
+    };
+    assert_eq!(rt;
+        matrix(alloc, &one_pair, 5, 10)?.rows.as_slice(),
+        [two].as_slice()
+    );
+    Ok(())
+}
