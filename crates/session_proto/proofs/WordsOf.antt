@@ -1,5 +1,5 @@
 -- The words of a line, cut at its first space.
-use Rattle.std.proofs.Common.{◌≡◌, ℕ, ◌+◌, ◌<◌, suc, zero, true, false, cond, eqb, List, [], ◌∷◌, length, take, drop, get_or, refl, None, codes, sym, ap, ◌∙◌, arith, eq-eqb}
+use Rattle.std.proofs.Common.{◌≡◌, ℕ, ◌+◌, ◌<◌, suc, zero, true, false, cond, eqb, List, [], ◌∷◌, length, take, drop, get_or, refl, None, codes, ap, arith, eq-eqb}
 use Rattle.std.proofs.lemmas.Bool.Decides.{nat_tests}
 use Rattle.std.specs.Str.{bytes_eq}
 use Rattle.session_proto.specs.Request.{words_of, onto_first, request_of_words}

@@ -1,7 +1,6 @@
--- The texts of the replies. Names are written as their bytes, last on their line.
+-- The texts of the replies. A function is told by the bytes of its name, at the end of its row.
 use Rattle.std.specs.Prelude.{ℕ, Bool, true, false, List, [], ◌∷◌, ◌++◌, length, codes, decimal}
 use Rattle.std.specs.List.{flat_map}
-use Rattle.trace_base.specs.declared.profile.Row.{Row}
 use Rattle.session_proto.specs.declared.reply.NamedRow.{NamedRow}
 use Rattle.session_proto.specs.declared.reply.No.{No}
 use Rattle.session_proto.specs.declared.reply.No.TheVariants as no

@@ -1,5 +1,5 @@
 -- What a request line says. The line stands without its newline.
-use Rattle.std.specs.Prelude.{ℕ, ◌+◌, ◌^◌, Bool, true, false, not, ◌&&◌, ◌||◌, ◌==◌, nat_lt, nat_le, if◌then◌else◌, List, [], ◌∷◌, length, slice_index, Option, None, Some, option_and_then, codes}
+use Rattle.std.specs.Prelude.{ℕ, ◌^◌, Bool, not, ◌&&◌, ◌||◌, ◌==◌, nat_lt, nat_le, if◌then◌else◌, List, [], ◌∷◌, length, slice_index, Option, None, Some, codes}
 use Rattle.std.specs.Char.{is_ascii_digit}
 use Rattle.std.specs.List.{list_all}
 use Rattle.std.specs.Str.{bytes_eq}
@@ -16,7 +16,7 @@ digits_of word = if list_all is_ascii_digit word && nat_lt (digits_value 10 word
 abbrev pub has_own_form : List ℕ → Bool
 has_own_form word = nat_lt 0 (length word) && (length word == 1 || not (slice_index word 0 == 48))
 
--- a number as it is written in a request: decimal, below 2^64, without sign and without leading zeros
+-- the number that a word of a request writes: decimal digits with no sign and no zero in front, below 2^64
 unfoldable pub number_of : List ℕ → Option ℕ
 number_of word = if has_own_form word then digits_of word else None
 

@@ -5,6 +5,8 @@ mod number;
 mod reply;
 mod request;
 mod rows;
+#[cfg(test)]
+mod tests;
 mod words;
 mod write;
 

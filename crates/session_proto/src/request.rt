@@ -16,7 +16,7 @@ pub enum Sel {
     All,
 }
 
-/// A request line. Numbers are decimal, below 2^64, without sign and without leading zeros.
+/// A request line. Its numbers are decimal digits with no sign and no zero in front, and below 2^64.
 #[derive(Clone, Copy, Debug, PartialEq, Eq)]
 pub enum Request {
     /// `PUT len`: a trace text of so many bytes follows, at most 65,536.

@@ -159,7 +159,7 @@ fn add_rows(out: &mut Vec<u8>, rows: &[NamedRow]) -> Result<(), Memory>
 }
 
 /// Adds the text of a reply at the end. On `Memory` the text is as before; where there is room for 200 more bytes, a
-/// reply of one line takes no memory.
+/// reply of one line can't fail.
 #[tactic(auto, unfolding(crate::specs::Reply::reply_text))]
 pub fn write_reply(reply: &Reply, out: &mut Vec<u8>) -> Result<(), Memory>
     ensures ok { OnOk result (out.new.items ≡ out.old.items ++ reply_text reply.now) }

@@ -1,4 +1,4 @@
-use Rattle.std.proofs.Common.{◌≡◌, ◌-◌, ◌+◌, length, take, drop, arith, ap, ◌∙◌, ◌∷◌, sym}
+use Rattle.std.proofs.Common.{◌+◌, take, arith, ap, ◌∙◌, ◌∷◌, sym}
 use Rattle.std.proofs.lemmas.List.{take_rest}
 use Rattle.session_proto.specs.Request.{words_of}
 use Rattle.session_proto.proofs.WordsOf.{words_of-one, words_of-cut}
