@@ -26,9 +26,9 @@ places_taken entries = length entries + promised entries
 abbrev pub HasRoom : List Entry → ℕ → Type 0
 HasRoom entries n = places_taken entries + n ≤ 2 ^ 62
 
--- so many more places don't fit; p is the number of those that are taken or promised
-abbrev pub LacksRoom : List Entry → ℕ → ℕ → Type 0
-LacksRoom entries n p = (p ≡ places_taken entries) × (2 ^ 62 < p + n)
+-- n more places don't fit where p of them are taken or promised, which are never more than there are
+abbrev pub LeavesNoRoom : ℕ → ℕ → Type 0
+LeavesNoRoom n p = (p ≤ 2 ^ 62) × (2 ^ 62 < p + n)
 
 -- Where the hall records the numbers that it found used up, the call recorded this one, or none.
 abbrev pub RecordsSpent : Option (List ℕ) → Option (List ℕ) → ℕ → Type 0
@@ -38,7 +38,8 @@ abbrev pub RecordsNone : Option (List ℕ) → Option (List ℕ) → Type 0
 RecordsNone old new = new ≡ old
 
 -- What admit answers. Ok: the trace is opened under the next id, with a pass over all its tracks. Full comes where
--- 1,024 traces are open, and Spent where the entries of the whole load don't fit any more.
+-- 1,024 traces are open, and Spent where the entries of the whole load don't fit any more; it tells how many places are
+-- taken or promised.
 abbrev pub Admits : Bool → Seat → Seat → TraceInfo → Result LoadPass HallFault → Type 0
 Admits alone old new info (Ok pass) =
     MakesEntry alone old new (Opened pass.id info) pass.place × (pass.id + 1 ≡ next_id new.seen) × (info_of new.seen pass.id ≡ Some info)
@@ -47,7 +48,7 @@ Admits alone old new info (Ok pass) =
 Admits alone old new info (Err (fault.Full place)) =
     MakesEntry alone old new Asked place × (length (open_ids new.seen) ≡ 1024) × (new.passes ≡ old.passes) × (new.pins ≡ old.pins)
     × OnTrue alone (HasRoom old.seen (length info.names.tracks + 2))
-Admits alone old new info (Err (fault.Spent p)) = (new ≡ old) × OnTrue alone (LacksRoom old.seen (length info.names.tracks + 2) p)
+Admits alone old new info (Err (fault.Spent p)) = (new ≡ old) × LeavesNoRoom (length info.names.tracks + 2) p × OnTrue alone (p ≡ places_taken old.seen)
 Admits alone old new info (Err fault.Memory) = new ≡ old
 
 -- what admit records of the numbers that are used up
@@ -90,7 +91,7 @@ IsFirstUnknown entries (Two a b) id =
     ((id ≡ a) × (is_open entries a ≡ false)) ⊎ ((id ≡ b) × IsTrue (is_open entries a) × (is_open entries b ≡ false))
 
 -- What ask answers. A pin holds the traces as of its place, with their numbers of tracks. Unknown tells the first one
--- that isn't open, and Spent comes where no place is left.
+-- that isn't open, and Spent comes where no place is left, and tells how many there are.
 abbrev pub Asks : Bool → Seat → Seat → AskIds → AskAnswer → Type 0
 Asks alone old new ids (answer.Pinned pin) =
     MakesEntry alone old new Asked pin.place × AreOpen new.seen ids × (pin.ids ≡ ids)
@@ -99,7 +100,7 @@ Asks alone old new ids (answer.Pinned pin) =
 Asks alone old new ids (answer.Unknown id next place) =
     MakesEntry alone old new Asked place × IsFirstUnknown new.seen ids id × (next ≡ next_id new.seen)
     × (new.pins ≡ old.pins) × (new.passes ≡ old.passes) × OnTrue alone (HasRoom old.seen 1)
-Asks alone old new ids (answer.Spent p) = (new ≡ old) × OnTrue alone (LacksRoom old.seen 1 p)
+Asks alone old new ids (answer.Spent p) = (new ≡ old) × LeavesNoRoom 1 p × OnTrue alone (p ≡ places_taken old.seen)
 
 -- what ask records of the numbers that are used up
 abbrev pub AskRecords : Option (List ℕ) → Option (List ℕ) → AskAnswer → Type 0

@@ -7,7 +7,7 @@ pub enum HallFault {
     /// No memory was found.
     #[error("out of memory")]
     Memory,
-    /// A number is used up: the place, counting the promised ones, beyond which there is no room.
+    /// The places are used up: so many are taken or promised, which leaves no room for what the call needs.
     #[error("number {0} is used up")]
     Spent(u64),
     /// The most traces are open, as of this place.
@@ -22,6 +22,6 @@ pub enum AskAnswer {
     Pinned(Pin),
     /// The first of them that isn't open, the id that the next trace will get, and the place of the question.
     Unknown { id: u64, next: u64, place: u64 },
-    /// The places are used up.
+    /// The places are used up: so many are taken or promised, which leaves no room for one more.
     Spent(u64),
 }

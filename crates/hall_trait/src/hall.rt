@@ -30,7 +30,8 @@ pub trait Hall {
     /// The numbers that this seat found used up, where the hall tells them.
     ghost limits: { Self → Option (List ℕ) };
 
-    /// Opens a trace, which is loading from then on. The places of all its entries are promised to it.
+    /// Opens a trace, which is loading from then on. The places of all its entries are promised to it. `Spent` where
+    /// they don't fit any more, else `Full` where the most traces are open, and `Memory` where none was found.
     fn admit<R: Wait>(
         &mut self,
         rt: &R,
@@ -82,8 +83,8 @@ pub trait Hall {
         ensures stream { option_copied result ≡ stream_of (take pin.now.place (seat self.now).seen) (first_id pin.now.ids) track }
         ensures fits { IfSome result (λ s. FitsTrack (take pin.now.place (seat self.now).seen) (first_id pin.now.ids) track s.now) };
 
-    /// The names and messages of the pin's first trace, for 0, or of its second, for 1. Of faults it answers `Memory`
-    /// alone.
+    /// What the hall keeps of a pinned trace beside its events: of the first for 0, of the second for 1. `Memory` is its
+    /// one fault.
     fn info<R: Wait>(
         &mut self,
         rt: &R,
@@ -108,6 +109,6 @@ pub trait Hall {
     /// The history is legal.
     ghost legal: { (h : Self) → IsLegalHistory (seat h).seen };
 
-    /// Where the seat is alone, all the entries are its own, and its places fit, with the promised ones.
+    /// Where the seat is alone, the places of all entries fit, with the promised ones.
     ghost room: { (h : Self) → OnTrue alone (HasRoom (seat h).seen 0) };
 }

@@ -1,14 +1,14 @@
 -- What a question of the hall makes of a query.
-use Rattle.std.proofs.Common.{◌≡◌, ℕ, ◌+◌, ◌≤◌, ◌⊎◌, ⊎_elim, Bool, true, false, cond, List, [], ◌∷◌, ◌++◌, length, take, Option, None, Some, IsTrue, refl, sym, ap, ◌∙◌, subst, inl, inr, arith, rules, option_to_list}
+use Rattle.std.proofs.Common.{◌≡◌, ℕ, ◌⊎◌, ⊎_elim, Bool, true, false, cond, List, [], ◌∷◌, ◌++◌, length, take, Option, None, refl, sym, ap, ◌∙◌, subst, inl, inr, arith, rules, option_to_list}
 use Rattle.std.proofs.lemmas.List.{take_all}
 use Rattle.std.specs.Bool.{OnTrue}
 use Rattle.trace_base.specs.Flat.{flat}
 use Rattle.trace_base.specs.Outside.{Told}
 use Rattle.trace_base.specs.declared.asks.AskIds.TheVariants.{One}
-use Rattle.hall_trait.specs.Answers.{Asks, AskRecords, RecordsNone, LacksRoom}
+use Rattle.hall_trait.specs.Answers.{Asks, AskRecords, RecordsNone, places_taken}
 use Rattle.hall_trait.specs.History.{Entry, Asked, is_open}
 use Rattle.hall_trait.specs.Pin.{pin_view}
-use Rattle.hall_trait.specs.Seat.{Seat, PinView, MakesEntry, MakesNoEntry, IsAtRest, Removes}
+use Rattle.hall_trait.specs.Seat.{Seat, PinView, MakesNoEntry, IsAtRest, Removes}
 use Rattle.hall_trait.specs.declared.pin.Pin.{Pin}
 use Rattle.hall_trait.specs.declared.answers.AskAnswer.TheVariants as answer
 use Rattle.session_proto.specs.declared.reply.No.TheVariants as no
@@ -17,8 +17,8 @@ use Rattle.session_proto.specs.declared.reply.Reply.TheVariants as reply
 use Rattle.request_reader.specs.Requests.{Flat}
 use Rattle.trace_session.specs.Replies.{reply_at, flat_reply, profile_reply, streams_of, functions_of}
 use Rattle.trace_session.specs.Served.{IsAnswered, spent_number}
-use Rattle.trace_session.specs.Serving.{Grows, Serves, RecordsReply}
-use Rattle.trace_session.proofs.Grow.{grows_none, Grows-one, Grows-still, OnTrue-by}
+use Rattle.trace_session.specs.Serving.{Serves, RecordsReply}
+use Rattle.trace_session.proofs.Grow.{Grows-one, Grows-still, OnTrue-by}
 use Rattle.trace_session.proofs.Loading.{Removes-one}
 use Rattle.trace_session.proofs.Opening.{records_none, Serves-still}
 
@@ -52,9 +52,8 @@ Serves-unknown alone old new limits limits' id a b unknown next place rest m non
 pub Serves-no_place : (alone : Bool) (old new : Seat) (limits limits' : Option (List ℕ)) (id a b n : ℕ) → IsAtRest old → Asks alone old new (One id) (answer.Spent n) → AskRecords limits limits' (answer.Spent n) → Serves alone old new limits limits' (Flat id a b) (reply.No (no.Spent n))
 Serves-no_place alone old new limits limits' id a b n rest m told =
     let whole : take (length old.seen) old.seen ≡ old.seen = take_last old.seen (length old.seen) refl in
-    let lacks : OnTrue alone ((k : ℕ) × (k ≤ length old.seen) × LacksRoom (take k old.seen) 1 n) =
-    OnTrue-by alone (λ (l : LacksRoom old.seen 1 n). (length old.seen, omega arith, subst (λ (h : List Entry). LacksRoom h 1 n) (sym whole) l)) m.1 in
-    Serves-still alone old new limits limits' (Flat id a b) (reply.No (no.Spent n)) m.0 rest (inr (inl (1, n, refl, refl, refl, lacks))) told
+    let taken : OnTrue alone (n ≡ places_taken (take (length old.seen) old.seen)) = OnTrue-by alone (λ (is : n ≡ places_taken old.seen). is ∙ ap places_taken (sym whole)) m.2 in
+    Serves-still alone old new limits limits' (Flat id a b) (reply.No (no.Spent n)) m.0 rest (inr (inl (1, n, refl, refl, refl, m.1, omega arith, taken))) told
 
 -- what a pin saw is the reply, or there was no memory
 pub Serves-seen : (alone : Bool) (old mid new : Seat) (limits limits' : Option (List ℕ)) (id a b : ℕ) (pin : Pin) (r : Reply) → IsAtRest old → Asks alone old mid (One id) (answer.Pinned pin) → Removes mid.pins new.pins (pin_view pin) → new.passes ≡ mid.passes → MakesNoEntry mid new → RecordsNone limits limits' → (r ≡ profile_reply (length (streams_of (take pin.place mid.seen) id)) (functions_of (take pin.place mid.seen) id) pin.place (flat (streams_of (take pin.place mid.seen) id) a b)) ⊎ (r ≡ reply.No no.Memory) → Serves alone old new limits limits' (Flat id a b) r
@@ -70,7 +69,7 @@ Serves-seen alone old mid new limits limits' id a b pin r rest m gone passes non
       block = pin.place ∷ [];
       entries = Asked ∷ [];
       grows = record_block;
-      answered = subst (λ (h : List Entry). IsAnswered alone h (Flat id a b) (pin.place ∷ []) (Asked ∷ []) r) (sym none.seen)
+      answered = subst (λ (h : List Entry). IsAnswered alone h (length old.seen) (Flat id a b) (pin.place ∷ []) (Asked ∷ []) r) (sym none.seen)
           (⊎_elim (λ (is : r ≡ profile_reply (length (streams_of (take pin.place mid.seen) id)) (functions_of (take pin.place mid.seen) id) pin.place (flat (streams_of (take pin.place mid.seen) id) a b)). inl (is ∙ own, refl)) (λ (is : r ≡ reply.No no.Memory). inr (inr (is, inr refl))) seen);
       rest = record {
         no_pins = Removes-one (pin_view pin) new.pins (subst (λ (ps : List PinView). Removes ps new.pins (pin_view pin)) pins gone);

@@ -1,20 +1,21 @@
 -- The ends of a session.
-use Rattle.std.proofs.Common.{◌≡◌, ◌≢◌, ℕ, Bool, List, [], ◌∷◌, ◌++◌, map, Option, None, Some, option_map, refl, sym, ap, ◌∙◌, subst, append_assoc}
+use Rattle.std.proofs.Common.{◌≡◌, ◌≢◌, ℕ, Bool, List, [], ◌∷◌, ◌++◌, length, Option, None, Some, refl, sym, ap, ◌∙◌, subst, append_assoc}
 use Rattle.std.proofs.lemmas.List.{append-nil}
 use Rattle.trace_base.specs.Outside.{Told}
-use Rattle.hall_trait.specs.Seat.{Seat, Begins, IsAtRest}
+use Rattle.hall_trait.specs.History.{IsLegalHistory}
+use Rattle.hall_trait.specs.Seat.{Seat, Begins}
 use Rattle.session_proto.specs.Reply.{reply_text}
 use Rattle.session_proto.specs.declared.reply.Reply.{Reply}
 use Rattle.request_reader.proofs.Cutting.{requests_of-append, requests_of-quit, requests_of-none}
-use Rattle.request_reader.specs.Incoming.{Spells, Takes, left_to_read}
+use Rattle.request_reader.specs.Incoming.{Spells, left_to_read}
 use Rattle.request_reader.specs.Requests.{WholeRequest, Put, Flat, Quit, Unreadable, Requests, Ending, AfterQuit, Between, Inside, requests_of, rest_only, onto, first_request}
 use Rattle.trace_session.specs.Output.{WritesFront}
-use Rattle.trace_session.specs.Served.{Served, output_of}
-use Rattle.trace_session.specs.Session.{IsSession, ReadsRequests, WritesReplies, Answers, requests_served}
+use Rattle.trace_session.specs.Served.{Served}
+use Rattle.trace_session.specs.Session.{IsSession, ReadsRequests, WritesReplies, Answers, LeavesNone, requests_served}
 use Rattle.trace_session.specs.Step.{Steps, TakesOne, TakesNone}
 use Rattle.trace_session.specs.declared.sessions.End.{End}
 use Rattle.trace_session.specs.declared.sessions.End.TheVariants as ends
-use Rattle.trace_session.proofs.Sofar.{Sofar, Done, Spell, HasRead, HasWritten, in_front, one_more, done_more, written_more, output_more, requests_more}
+use Rattle.trace_session.proofs.Sofar.{Sofar, Done, Spell, HasRead, HasWritten, in_front, one_more, done_more, written_more, requests_more}
 use Rattle.trace_session.proofs.Telling.{told_then, told_as}
 
 -- what is left to read is what waits, and what is left in the source
@@ -36,8 +37,9 @@ taken_then served Q a b c =
 -- the source ended or failed, and nothing waits
 pub ended : (end : End) (Q : List ℕ → List ℕ → Type 0) (alone : Bool) (old now new : Seat) (limits mid limits' left midway src held written held' : Option (List ℕ)) (pending : List ℕ) → (s : Sofar alone old now limits mid left midway held written) → TakesNone now new mid limits' midway (left_to_read pending src) written held' Q → pending ≡ []
     → ((given bytes is : List ℕ) → Spell given (requests_served s.served) → first_request bytes ≡ None → Q bytes is → Answers end (requests_of (given ++ bytes)) s.served)
-    → ((was is : List ℕ) → HasWritten s.served was is → WritesReplies end was is s.served) → IsSession alone old new limits limits' left src held held' end
-ended end Q alone old now new limits mid limits' left midway src held written held' pending s t none answers writes =
+    → ((bytes is : List ℕ) → Q bytes is → LeavesNone end is)
+    → ((was is : List ℕ) → HasWritten s.served was is → WritesReplies end was is s.served) → IsLegalHistory new.seen → IsSession alone old new limits limits' left src held held' end
+ended end Q alone old now new limits mid limits' left midway src held written held' pending s t none answers leaves writes legal =
     let seat = subst (λ (n : Seat). Done alone old n limits mid s.served) (sym t.seat) s.done in
     let d = subst (λ (l : Option (List ℕ)). Done alone old new limits l s.served) (sym t.limits_same) seat in
     let out = subst (λ (h : Option (List ℕ)). Told held h (HasWritten s.served)) (sym t.held_same) s.output in
@@ -47,11 +49,14 @@ ended end Q alone old now new limits mid limits' left midway src held written he
       served = s.served;
       each = d.each;
       seen = d.seen;
+      legal = legal;
+      order = d.order;
       places = d.places;
+      lone = d.lone;
       rest = d.rest;
       records = d.records;
       input = told_pending [] (HasTaken s.served (λ bytes is. (first_request bytes ≡ None) × Q bytes is)) (λ was is. ReadsRequests end was is s.served) left src
-          (λ x y p. (p.0 ++ p.1, p.2, answers p.0 p.1 y p.3 p.4.0 p.4.1)) joined;
+          (λ x y p. (p.0 ++ p.1, p.2, answers p.0 p.1 y p.3 p.4.0 p.4.1, leaves p.1 y p.4.1)) joined;
       output = told_as (HasWritten s.served) (λ was is. WritesReplies end was is s.served) held held' writes out;
     }
 
@@ -95,29 +100,33 @@ failed_answers served given bytes is spell none q =
 
 -- a request was the last
 pub one_ended : (end : End) (alone : Bool) (old now new : Seat) (limits mid limits' left midway src held written held' : Option (List ℕ)) (pending : List ℕ) → (s : Sofar alone old now limits mid left midway held written) → (t : TakesOne alone now new mid limits' midway (left_to_read pending src) written held' (Some end))
-    → ((given bytes : List ℕ) → Spell given (requests_served s.served) → Spells bytes t.request → Answers end (requests_of (given ++ bytes ++ pending)) (one_more s.served t.request t.answers.serves.block t.answers.reply))
-    → Told held held' (λ was is. WritesReplies end was is (one_more s.served t.request t.answers.serves.block t.answers.reply)) → IsSession alone old new limits limits' left src held held' end
-one_ended end alone old now new limits mid limits' left midway src held written held' pending s t answers writes =
-    let x = one_more s.served t.request t.answers.serves.block t.answers.reply in
+    → ((given bytes : List ℕ) → Spell given (requests_served s.served) → Spells bytes t.request → Answers end (requests_of (given ++ bytes ++ pending)) (one_more s.served t.request (length now.seen) t.answers.serves.block t.answers.reply))
+    → ((is : List ℕ) → LeavesNone end is)
+    → Told held held' (λ was is. WritesReplies end was is (one_more s.served t.request (length now.seen) t.answers.serves.block t.answers.reply)) → IsLegalHistory new.seen → IsSession alone old new limits limits' left src held held' end
+one_ended end alone old now new limits mid limits' left midway src held written held' pending s t answers leaves writes legal =
+    let x = one_more s.served t.request (length now.seen) t.answers.serves.block t.answers.reply in
     let d = done_more alone old now new limits mid limits' s.served t.request t.answers.reply s.done t.answers.serves in
     let joined = taken_then s.served (λ bytes is. Spells bytes t.request) left midway (left_to_read pending src) s.input t.taken in
     record {
       served = x;
       each = d.each;
       seen = d.seen;
+      legal = legal;
+      order = d.order;
       places = d.places;
+      lone = d.lone;
       rest = d.rest;
       records = d.records;
       input = told_pending pending (HasTaken s.served (λ bytes is. Spells bytes t.request)) (λ was is. ReadsRequests end was is x) left src
-          (λ a b p. ((p.0 ++ p.1) ++ pending, p.2 ∙ sym (append_assoc (p.0 ++ p.1) pending b), answers p.0 p.1 p.3 p.4)) joined;
+          (λ a b p. ((p.0 ++ p.1) ++ pending, p.2 ∙ sym (append_assoc (p.0 ++ p.1) pending b), answers p.0 p.1 p.3 p.4, leaves b)) joined;
       output = writes;
     }
 
-pub quit_answers : (served : List Served) (request : WholeRequest) (block : List ℕ) (r : Reply) (given bytes pending : List ℕ) → request ≡ Quit → Spell given (requests_served served) → Spells bytes request → Answers ends.Quit (requests_of (given ++ bytes ++ pending)) (one_more served request block r)
-quit_answers served request block r given bytes pending is spell spells =
+pub quit_answers : (served : List Served) (request : WholeRequest) (before : ℕ) (block : List ℕ) (r : Reply) (given bytes pending : List ℕ) → request ≡ Quit → Spell given (requests_served served) → Spells bytes request → Answers ends.Quit (requests_of (given ++ bytes ++ pending)) (one_more served request before block r)
+quit_answers served request before block r given bytes pending is spell spells =
     let quits : Spells bytes Quit = subst (λ (q : WholeRequest). Spells bytes q) is spells in
     ap requests_of (append_assoc given bytes pending) ∙ spell (bytes ++ pending) ∙ ap (in_front (requests_served served)) (requests_of-quit bytes pending quits)
-    ∙ ap (λ (l : List WholeRequest). made l) (ap (λ (q : WholeRequest). requests_served served ++ q ∷ []) (sym is) ∙ sym (requests_more served request block r))
+    ∙ ap (λ (l : List WholeRequest). made l) (ap (λ (q : WholeRequest). requests_served served ++ q ∷ []) (sym is) ∙ sym (requests_more served request before block r))
   where
     made : List WholeRequest → Requests
     made l = record { all = l; ending = AfterQuit }
@@ -128,34 +137,32 @@ onto_begins (Flat id a b) behind = (behind.all, refl)
 onto_begins Quit behind = ([], refl)
 onto_begins Unreadable behind = (behind.all, refl)
 
-pub fault_answers : (served : List Served) (request : WholeRequest) (block : List ℕ) (r : Reply) (given bytes pending : List ℕ) → Spell given (requests_served served) → Spells bytes request → Answers ends.WriteFault (requests_of (given ++ bytes ++ pending)) (one_more served request block r)
-fault_answers served request block r given bytes pending spell spells =
+pub fault_answers : (served : List Served) (request : WholeRequest) (before : ℕ) (block : List ℕ) (r : Reply) (given bytes pending : List ℕ) → Spell given (requests_served served) → Spells bytes request → Answers ends.WriteFault (requests_of (given ++ bytes ++ pending)) (one_more served request before block r)
+fault_answers served request before block r given bytes pending spell spells =
     let same = ap requests_of (append_assoc given bytes pending) ∙ spell (bytes ++ pending) ∙ ap (in_front (requests_served served)) (requests_of-append bytes pending request spells) in
     let b = onto_begins request (requests_of pending) in
-    (b.0, ap (λ (q : Requests). q.all) same ∙ ap (λ (l : List WholeRequest). requests_served served ++ l) b.1 ∙ sym (append_assoc (requests_served served) (request ∷ []) b.0) ∙ ap (λ (l : List WholeRequest). l ++ b.0) (sym (requests_more served request block r)))
+    (b.0, ap (λ (q : Requests). q.all) same ∙ ap (λ (l : List WholeRequest). requests_served served ++ l) b.1 ∙ sym (append_assoc (requests_served served) (request ∷ []) b.0) ∙ ap (λ (l : List WholeRequest). l ++ b.0) (sym (requests_more served request before block r)))
 
-pub fault_writes : (served : List Served) (request : WholeRequest) (block : List ℕ) (r : Reply) (a b c : Option (List ℕ)) → Told a b (HasWritten served) → Told b c (λ was is. WritesFront (reply_text r) was is) → Told a c (λ was is. WritesReplies ends.WriteFault was is (one_more served request block r))
-fault_writes served request block r a b c =
-    told_then (HasWritten served) (λ was is. WritesFront (reply_text r) was is) (λ was is. WritesReplies ends.WriteFault was is (one_more served request block r)) a b c
-    (λ x y z p q. (
-      output_of served ++ q.0,
-      (q.1.0, output_more served request block r ∙ ap (λ (l : List ℕ). output_of served ++ l) q.1.1 ∙ sym (append_assoc (output_of served) q.0 q.1.0)),
-      q.2 ∙ ap (λ (l : List ℕ). l ++ q.0) p ∙ append_assoc x (output_of served) q.0,
-    ))
+pub fault_writes : (served : List Served) (request : WholeRequest) (before : ℕ) (block : List ℕ) (r : Reply) (a b c : Option (List ℕ)) → Told a b (HasWritten served) → Told b c (λ was is. WritesFront (reply_text r) was is) → Told a c (λ was is. WritesReplies ends.WriteFault was is (one_more served request before block r))
+fault_writes served request before block r a b c =
+    told_then (HasWritten served) (λ was is. WritesFront (reply_text r) was is) (λ was is. WritesReplies ends.WriteFault was is (one_more served request before block r)) a b c
+    (λ x y z p q. (served, (record { request = request; before = before; block = block; reply = r }), refl, subst (λ (l : List ℕ). WritesFront (reply_text r) l z) p q))
 
 -- a step that ends the session
-pub step_ends : (end : End) (alone : Bool) (old now new : Seat) (limits mid limits' left midway src held written held' : Option (List ℕ)) (pending : List ℕ) → Sofar alone old now limits mid left midway held written → Steps alone now new mid limits' midway (left_to_read pending src) written held' pending (Some end) → IsSession alone old new limits limits' left src held held' end
-step_ends ends.Quit alone old now new limits mid limits' left midway src held written held' pending s t =
+pub step_ends : (end : End) (alone : Bool) (old now new : Seat) (limits mid limits' left midway src held written held' : Option (List ℕ)) (pending : List ℕ) → Sofar alone old now limits mid left midway held written → Steps alone now new mid limits' midway (left_to_read pending src) written held' pending (Some end) → IsLegalHistory new.seen → IsSession alone old new limits limits' left src held held' end
+step_ends ends.Quit alone old now new limits mid limits' left midway src held written held' pending s t legal =
     one_ended ends.Quit alone old now new limits mid limits' left midway src held written held' pending s t.0
-    (λ given bytes. quit_answers s.served t.0.request t.0.answers.serves.block t.0.answers.reply given bytes pending t.1)
-    (written_more s.served t.0.request t.0.answers.serves.block t.0.answers.reply held written held' s.output t.0.answers.written)
-step_ends ends.WriteFault alone old now new limits mid limits' left midway src held written held' pending s t =
+    (λ given bytes. quit_answers s.served t.0.request (length now.seen) t.0.answers.serves.block t.0.answers.reply given bytes pending t.1)
+    (λ is. tt)
+    (written_more s.served t.0.request (length now.seen) t.0.answers.serves.block t.0.answers.reply held written held' s.output t.0.answers.written) legal
+step_ends ends.WriteFault alone old now new limits mid limits' left midway src held written held' pending s t legal =
     one_ended ends.WriteFault alone old now new limits mid limits' left midway src held written held' pending s t
-    (λ given bytes. fault_answers s.served t.request t.answers.serves.block t.answers.reply given bytes pending)
-    (fault_writes s.served t.request t.answers.serves.block t.answers.reply held written held' s.output t.answers.written)
-step_ends ends.Eof alone old now new limits mid limits' left midway src held written held' pending s t =
-    ended ends.Eof (λ bytes is. (bytes ≡ []) × (is ≡ [])) alone old now new limits mid limits' left midway src held written held' pending s t.0 t.1 (eof_answers s.served) (λ was is w. w)
-step_ends ends.Cut alone old now new limits mid limits' left midway src held written held' pending s t =
-    ended ends.Cut (λ bytes is. (bytes ≢ []) × (is ≡ [])) alone old now new limits mid limits' left midway src held written held' pending s t.0 t.1 (cut_answers s.served) (λ was is w. w)
-step_ends ends.ReadFault alone old now new limits mid limits' left midway src held written held' pending s t =
-    ended ends.ReadFault (λ bytes is. Unit {0}) alone old now new limits mid limits' left midway src held written held' pending s t.0 t.1 (failed_answers s.served) (λ was is w. w)
+    (λ given bytes. fault_answers s.served t.request (length now.seen) t.answers.serves.block t.answers.reply given bytes pending)
+    (λ is. tt)
+    (fault_writes s.served t.request (length now.seen) t.answers.serves.block t.answers.reply held written held' s.output t.answers.written) legal
+step_ends ends.Eof alone old now new limits mid limits' left midway src held written held' pending s t legal =
+    ended ends.Eof (λ bytes is. (bytes ≡ []) × (is ≡ [])) alone old now new limits mid limits' left midway src held written held' pending s t.0 t.1 (eof_answers s.served) (λ bytes is q. q.1) (λ was is w. w) legal
+step_ends ends.Cut alone old now new limits mid limits' left midway src held written held' pending s t legal =
+    ended ends.Cut (λ bytes is. (bytes ≢ []) × (is ≡ [])) alone old now new limits mid limits' left midway src held written held' pending s t.0 t.1 (cut_answers s.served) (λ bytes is q. q.1) (λ was is w. w) legal
+step_ends ends.ReadFault alone old now new limits mid limits' left midway src held written held' pending s t legal =
+    ended ends.ReadFault (λ bytes is. Unit {0}) alone old now new limits mid limits' left midway src held written held' pending s t.0 t.1 (failed_answers s.served) (λ bytes is q. tt) (λ was is w. w) legal

@@ -1,11 +1,13 @@
 -- A seat that makes entries, one after another.
-use Rattle.std.proofs.Common.{◌≡◌, ℕ, ◌+◌, zero, suc, Bool, true, false, List, [], ◌∷◌, ◌++◌, length, map, slice_get, Option, None, Some, refl, sym, ap, ◌∙◌, subst, arith, rules, append_assoc, length-append, append-nil}
+use Rattle.std.proofs.Common.{◌≡◌, ℕ, ◌<◌, zero, suc, Bool, true, false, List, [], ◌∷◌, ◌++◌, length, map, slice_get, Option, Some, refl, sym, ap, ◌∙◌, subst, arith, append_assoc, length-append, append-nil}
+use Rattle.std.proofs.lemmas.List.{length-map}
 use Rattle.std.specs.Bool.{OnTrue}
 use Rattle.hall_trait.specs.History.{Entry}
 use Rattle.hall_trait.specs.Seat.{Seat, Begins, MakesEntry, MakesNoEntry}
 use Rattle.trace_session.specs.Replies.{entry_at}
-use Rattle.trace_session.specs.Served.{AreAt, last_place}
+use Rattle.trace_session.specs.Served.{AreAt, Rise, last_place}
 use Rattle.trace_session.specs.Serving.{Grows}
+use Rattle.trace_session.proofs.Rising.{Rise-push, Rise-append}
 
 -- an item stays where it is in a list that goes on
 slice_get-more : {X : Type 0} (xs more : List X) (i : ℕ) (x : X) → slice_get xs i ≡ Some x → slice_get (xs ++ more) i ≡ Some x
@@ -52,6 +54,10 @@ AreAt-append history (j ∷ js) block' (d ∷ ds) entries' at at' =
     let rest' : map (entry_at history) (js ++ block') ≡ map Some (ds ++ entries') = AreAt-append history js block' ds entries' rest at' in
     cc
 
+-- a block has a place for each entry
+pub AreAt-length : (history : List Entry) (block : List ℕ) (entries : List Entry) → AreAt history block entries → length block ≡ length entries
+AreAt-length history block entries at = sym (length-map block (entry_at history)) ∙ ap length at ∙ length-map entries Some
+
 -- the last entry stands at the last place
 pub entry_at_last : (before : List Entry) (e : Entry) → entry_at (before ++ e ∷ []) (length (before ++ e ∷ [])) ≡ Some e
 entry_at_last before e =
@@ -92,6 +98,7 @@ OnTrue-all false p = tt
 pub grows_none : (alone : Bool) (s : Seat) → Grows alone s s [] []
 grows_none alone s = record {
   at = refl;
+  rises = omega arith;
   places = sym (append-nil s.places);
   seen = ([], sym (append-nil s.seen));
   lone = OnTrue-all alone (sym (append-nil s.seen));
@@ -103,8 +110,10 @@ Grows-more alone a b c block entries e k g m =
     let stays : AreAt m.before block entries = subst (λ (h : List Entry). AreAt h block entries) (sym m.grown.1) (AreAt-more b.seen m.grown.0 block entries g.at) in
     let kept : AreAt c.seen block entries = subst (λ (h : List Entry). AreAt h block entries) (sym m.seen) (AreAt-more m.before (e ∷ []) block entries stays) in
     let last : entry_at c.seen k ≡ Some e = entry_at_place m.before c.seen e k m.seen m.last in
+    let below : length b.seen < k = omega (arith, m.last, ap length m.seen, length-append m.before (e ∷ []), ap length m.grown.1, length-append b.seen m.grown.0) in
     record {
       at = AreAt-push c.seen block entries k e kept last;
+      rises = subst (λ (n : ℕ). Rise (length a.seen) (block ++ k ∷ []) n) m.last (Rise-push (length a.seen) (length b.seen) block k g.rises below);
       places = m.places ∙ ap (λ (l : List ℕ). l ++ k ∷ []) g.places ∙ append_assoc a.places block (k ∷ []);
       seen = Begins-trans a.seen b.seen c.seen g.seen (Begins-trans b.seen m.before c.seen m.grown (e ∷ [], m.seen));
       lone = OnTrue-both alone (λ (old : b.seen ≡ a.seen ++ entries) (same : m.before ≡ b.seen).
@@ -115,6 +124,7 @@ Grows-more alone a b c block entries e k g m =
 pub Grows-still : (alone : Bool) (a b c : Seat) (block : List ℕ) (entries : List Entry) → Grows alone a b block entries → MakesNoEntry b c → Grows alone a c block entries
 Grows-still alone a b c block entries g m = record {
   at = rw m.seen g.at;
+  rises = subst (λ (h : List Entry). Rise (length a.seen) block (length h)) (sym m.seen) g.rises;
   places = m.places ∙ g.places;
   seen = (g.seen.0, m.seen ∙ g.seen.1);
   lone = OnTrue-by alone (λ (old : b.seen ≡ a.seen ++ entries). m.seen ∙ old) g.lone;
@@ -126,6 +136,7 @@ Grows-trans alone a b c block block' entries entries' g h =
     let kept : AreAt c.seen block entries = subst (λ (l : List Entry). AreAt l block entries) (sym h.seen.1) (AreAt-more b.seen h.seen.0 block entries g.at) in
     record {
       at = AreAt-append c.seen block block' entries entries' kept h.at;
+      rises = Rise-append (length a.seen) (length b.seen) (length c.seen) block block' g.rises h.rises;
       places = h.places ∙ ap (λ (l : List ℕ). l ++ block') g.places ∙ append_assoc a.places block block';
       seen = Begins-trans a.seen b.seen c.seen g.seen h.seen;
       lone = OnTrue-both alone (λ (old : b.seen ≡ a.seen ++ entries) (new : c.seen ≡ b.seen ++ entries').

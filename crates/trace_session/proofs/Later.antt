@@ -1,12 +1,10 @@
 -- What was served stays served in a history that goes on.
-use Rattle.std.proofs.Common.{◌≡◌, ℕ, zero, suc, ◌+◌, ◌-◌, ◌≤◌, ◌⊎◌, ⊎_elim, Bool, true, false, List, [], ◌∷◌, ◌++◌, length, map, take, slice_get, Option, None, Some, refl, sym, ap, ◌∙◌, subst, inl, inr, arith, length-append}
+use Rattle.std.proofs.Common.{◌≡◌, ℕ, zero, suc, ◌+◌, ◌-◌, ◌≤◌, Bool, List, [], ◌∷◌, ◌++◌, length, map, take, slice_get, Option, None, Some, refl, sym, ap, ◌∙◌, subst, inl, inr, arith, length-append}
 use Rattle.std.proofs.lemmas.List.{take-append-le}
-use Rattle.std.specs.Bool.{OnTrue}
 use Rattle.std.specs.List.{AllByRecursion}
 use Rattle.trace_base.specs.declared.text.TraceText.{TraceText}
-use Rattle.hall_trait.specs.Answers.{HasRoom, LacksRoom}
+use Rattle.hall_trait.specs.Answers.{HasRoom, places_taken}
 use Rattle.hall_trait.specs.History.{Entry, open_ids}
-use Rattle.hall_trait.specs.Seat.{Begins}
 use Rattle.session_proto.specs.declared.reply.No.TheVariants as no
 use Rattle.session_proto.specs.declared.reply.Reply.{Reply}
 use Rattle.session_proto.specs.declared.reply.Reply.TheVariants as reply
@@ -72,27 +70,28 @@ own_later alone history more k (Flat id a b) r entries below own = own
 own_later alone history more k Quit r entries below own = own
 own_later alone history more k Unreadable r entries below own = own
 
-spent_later : (alone : Bool) (history more : List Entry) (request : WholeRequest) (r : Reply) (entries : List Entry) → IsSpent alone history request r entries → IsSpent alone (history ++ more) request r entries
-spent_later alone history more request r entries s = (
+spent_later : (alone : Bool) (history more : List Entry) (before : ℕ) (request : WholeRequest) (r : Reply) (entries : List Entry) → IsSpent alone history before request r entries → IsSpent alone (history ++ more) before request r entries
+spent_later alone history more before request r entries s = (
   s.0,
   s.1,
   s.2,
   s.3,
   s.4,
-  OnTrue-by alone (λ (l : (m : ℕ) × (m ≤ length history) × LacksRoom (take m history) s.0 s.1).
-      (l.0, omega (arith, l.1, length-append history more), subst (λ (h : List Entry). LacksRoom h s.0 s.1) (sym (take-append-le l.0 history more l.1)) l.2)) s.5,
+  s.5,
+  omega (arith, s.6, length-append history more),
+  OnTrue-by alone (λ (l : s.1 ≡ places_taken (take before history)). l ∙ ap places_taken (sym (take-append-le before history more s.6))) s.7,
 )
 
-answered_later : (alone : Bool) (history more : List Entry) (request : WholeRequest) (block : List ℕ) (entries : List Entry) (r : Reply) → last_place block ≤ length history → IsAnswered alone history request block entries r → IsAnswered alone (history ++ more) request block entries r
-answered_later alone history more request block entries r below (inl own) =
+answered_later : (alone : Bool) (history more : List Entry) (before : ℕ) (request : WholeRequest) (block : List ℕ) (entries : List Entry) (r : Reply) → last_place block ≤ length history → IsAnswered alone history before request block entries r → IsAnswered alone (history ++ more) before request block entries r
+answered_later alone history more before request block entries r below (inl own) =
     inl (own.0 ∙ sym (reply_later history more (last_place block) request below), own_later alone history more (last_place block) request r entries below own.1)
-answered_later alone history more request block entries r below (inr (inl spent)) = inr (inl (spent_later alone history more request r entries spent))
-answered_later alone history more request block entries r below (inr (inr memory)) = inr (inr memory)
+answered_later alone history more before request block entries r below (inr (inl spent)) = inr (inl (spent_later alone history more before request r entries spent))
+answered_later alone history more before request block entries r below (inr (inr memory)) = inr (inr memory)
 
 -- a request that was served is served in each history that goes on
 pub IsServed-more : (alone : Bool) (history more : List Entry) (x : Served) → IsServed alone history x → IsServed alone (history ++ more) x
 IsServed-more alone history more x s =
-    (s.0, AreAt-more history more x.block s.0 s.1, answered_later alone history more x.request x.block s.0 x.reply (last_within history x.block s.0 s.1) s.2)
+    (s.0, AreAt-more history more x.block s.0 s.1, answered_later alone history more x.before x.request x.block s.0 x.reply (last_within history x.block s.0 s.1) s.2)
 
 pub all_later : (alone : Bool) (history more : List Entry) (served : List Served) → AllByRecursion (IsServed alone history) served → AllByRecursion (IsServed alone (history ++ more)) served
 all_later alone history more [] all = tt

@@ -6,6 +6,7 @@ pub mod Legal
 pub mod Loading
 pub mod Opening
 pub mod Plain
+pub mod Rising
 pub mod Sofar
 pub mod Stepping
 pub mod Streams

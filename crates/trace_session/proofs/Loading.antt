@@ -1,19 +1,17 @@
 -- A load under way: so many tracks are published.
-use Rattle.std.proofs.Common.{◌≡◌, ℕ, ◌+◌, ◌<◌, ◌≤◌, zero, suc, Bool, true, false, cond, eqb, List, [], ◌∷◌, ◌++◌, length, take, slice_get, Option, None, Some, Ok, Err, refl, sym, ap, ◌∙◌, subst, arith, rules, append_assoc, length-append, append-nil, zero-add}
+use Rattle.std.proofs.Common.{◌≡◌, ℕ, ◌+◌, ◌<◌, suc, Bool, false, eqb, List, [], ◌∷◌, ◌++◌, length, take, slice_get, Option, None, Some, Ok, refl, sym, ap, ◌∙◌, subst, arith, length-append, zero-add}
 use Rattle.std.proofs.lemmas.Bool.Decides.{nat_tests}
 use Rattle.std.proofs.Math.Seq.{take-append_seam}
-use Rattle.trace_base.specs.Info.{Fits}
-use Rattle.trace_base.specs.declared.asks.PassState.{PassState}
-use Rattle.trace_base.specs.declared.asks.PassState.TheVariants.{Straight, Whole}
+use Rattle.trace_base.specs.declared.asks.PassState.TheVariants.{Straight}
 use Rattle.trace_base.specs.declared.names.TraceInfo.{TraceInfo}
 use Rattle.trace_base.specs.declared.stream.TrackStream.{TrackStream}
 use Rattle.hall_trait.specs.Answers.{FitsTrack, Keeps, CoversAll, EndsLoad}
-use Rattle.hall_trait.specs.History.{Entry, Published, Sealed, Dropped, info_of, info_opened, tracks_of}
-use Rattle.hall_trait.specs.Pass.{pass_view, state_at, IsNext, IsFresh, advanced}
-use Rattle.hall_trait.specs.Seat.{Seat, PassView, Begins, IsAtRest, MakesEntry, Replaces, Removes}
+use Rattle.hall_trait.specs.History.{Entry, Published, Sealed, Dropped, info_of, info_opened}
+use Rattle.hall_trait.specs.Pass.{pass_view, state_at, IsNext, IsFresh}
+use Rattle.hall_trait.specs.Seat.{Seat, PassView, Begins, IsAtRest, Replaces, Removes}
 use Rattle.hall_trait.specs.declared.pass.LoadPass.{LoadPass}
 use Rattle.std.specs.List.{filter_map, cons_option}
-use Rattle.trace_session.specs.Load.{AreTracksOf, FitAll, Publishes}
+use Rattle.trace_session.specs.Load.{AreTracksOf, Publishes}
 use Rattle.trace_session.specs.Replies.{entry_at}
 use Rattle.trace_session.specs.Served.{published_from}
 use Rattle.trace_session.specs.Serving.{Grows}

@@ -1,13 +1,13 @@
 -- What a load that was let in, or not, makes of a PUT.
-use Rattle.std.proofs.Common.{◌≡◌, ℕ, ◌+◌, ◌-◌, ◌≤◌, Bool, true, false, List, [], ◌∷◌, ◌++◌, length, take, Option, None, Some, Result, Ok, Err, refl, sym, ap, ◌∙◌, subst, inl, inr, arith, length-append, append-nil}
+use Rattle.std.proofs.Common.{◌≡◌, ℕ, ◌+◌, ◌-◌, Bool, List, [], ◌∷◌, ◌++◌, length, take, Option, None, Some, Result, Ok, Err, refl, sym, ap, ◌∙◌, subst, inl, inr, arith, length-append, append-nil}
 use Rattle.std.proofs.lemmas.List.{take_all}
 use Rattle.std.proofs.Math.Seq.{take-append_seam}
 use Rattle.std.specs.Bool.{OnTrue}
 use Rattle.trace_base.specs.Outside.{Told}
 use Rattle.trace_base.specs.declared.text.TraceText.{TraceText}
-use Rattle.hall_trait.specs.Answers.{Admits, AdmitRecords, HasRoom, LacksRoom, RecordsNone, RecordsSpent}
+use Rattle.hall_trait.specs.Answers.{Admits, AdmitRecords, HasRoom, places_taken, RecordsNone, RecordsSpent}
 use Rattle.hall_trait.specs.History.{Entry, Opened, Sealed, Dropped, Asked, open_ids}
-use Rattle.hall_trait.specs.Seat.{Seat, MakesEntry, IsAtRest}
+use Rattle.hall_trait.specs.Seat.{Seat, IsAtRest}
 use Rattle.hall_trait.specs.declared.answers.HallFault.{HallFault}
 use Rattle.hall_trait.specs.declared.answers.HallFault.TheVariants as fault
 use Rattle.trace_base.specs.declared.messages.Message.{Message}
@@ -21,7 +21,7 @@ use Rattle.request_reader.specs.Requests.{WholeRequest, Put}
 use Rattle.trace_session.specs.Load.{Publishes}
 use Rattle.trace_session.specs.Replies.{entry_at, reply_at, put_reply, opened_reply}
 use Rattle.trace_session.specs.Served.{IsAnswered, OwnEntries, published_from, load_entries, dropped_entries, last_place}
-use Rattle.trace_session.specs.Serving.{Grows, Serves, RecordsReply}
+use Rattle.trace_session.specs.Serving.{Serves, RecordsReply}
 use Rattle.trace_session.proofs.Grow.{grows_none, Grows-one, Grows-trans, entry_at_place, last_place-push, OnTrue-by, OnTrue-both}
 
 -- a hall that recorded nothing, and a reply that tells no number
@@ -33,7 +33,7 @@ records_none old new same = subst (λ (n : Option (List ℕ)). Told old n (λ wa
     kept (Some l) = sym (append-nil l)
 
 -- nothing happened
-pub Serves-still : (alone : Bool) (old new : Seat) (limits limits' : Option (List ℕ)) (request : WholeRequest) (r : Reply) → new ≡ old → IsAtRest old → IsAnswered alone old.seen request [] [] r → RecordsReply limits limits' r → Serves alone old new limits limits' request r
+pub Serves-still : (alone : Bool) (old new : Seat) (limits limits' : Option (List ℕ)) (request : WholeRequest) (r : Reply) → new ≡ old → IsAtRest old → IsAnswered alone old.seen (length old.seen) request [] [] r → RecordsReply limits limits' r → Serves alone old new limits limits' request r
 Serves-still alone old new limits limits' request r same rest answered records =
     subst (λ (s : Seat). Serves alone old s limits limits' request r) (sym same) (record {
       block = [];
@@ -101,9 +101,8 @@ Serves-dropped alone old mid new limits limits' text t pass form m p none =
 pub Serves-spent : (alone : Bool) (old new : Seat) (limits limits' : Option (List ℕ)) (text : List ℕ) (t : TraceText) (n : ℕ) → small_form text ≡ Some t → IsAtRest old → Admits alone old new (info_of t) (Err (fault.Spent n)) → RecordsSpent limits limits' n → Serves alone old new limits limits' (Put text) (reply.No (no.Spent n))
 Serves-spent alone old new limits limits' text t n form rest m told =
     let whole : take (length old.seen) old.seen ≡ old.seen = take_all (length old.seen) old.seen (omega arith) in
-    let lacks : OnTrue alone ((m : ℕ) × (m ≤ length old.seen) × LacksRoom (take m old.seen) (length t.names.tracks + 2) n) =
-    OnTrue-by alone (λ (l : LacksRoom old.seen (length t.names.tracks + 2) n). (length old.seen, omega arith, subst (λ (h : List Entry). LacksRoom h (length t.names.tracks + 2) n) (sym whole) l)) m.1 in
-    Serves-still alone old new limits limits' (Put text) (reply.No (no.Spent n)) m.0 rest (inr (inl (length t.names.tracks + 2, n, refl, refl, (t, form, refl), lacks))) told
+    let taken : OnTrue alone (n ≡ places_taken (take (length old.seen) old.seen)) = OnTrue-by alone (λ (is : n ≡ places_taken old.seen). is ∙ ap places_taken (sym whole)) m.2 in
+    Serves-still alone old new limits limits' (Put text) (reply.No (no.Spent n)) m.0 rest (inr (inl (length t.names.tracks + 2, n, refl, refl, (t, form, refl), m.1, omega arith, taken))) told
 
 -- the text isn't in the small form, or there was no memory to read it
 pub put_unbuilt : (alone : Bool) (s : Seat) (limits : Option (List ℕ)) (text : List ℕ) → IsAtRest s → small_form text ≡ None → Serves alone s s limits limits (Put text) (reply.No no.Unbuilt)

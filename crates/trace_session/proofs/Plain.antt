@@ -1,5 +1,5 @@
 -- Requests that need nothing of the hall.
-use Rattle.std.proofs.Common.{◌≡◌, ℕ, Bool, List, [], Option, refl, sym, ap, subst, inl, inr}
+use Rattle.std.proofs.Common.{◌≡◌, ℕ, Bool, List, Option, refl, sym, subst, inl}
 use Rattle.hall_trait.specs.Seat.{Seat, IsAtRest}
 use Rattle.request_reader.specs.Requests.{WholeRequest, Put, Quit, Unreadable}
 use Rattle.session_proto.specs.declared.reply.No.TheVariants as no

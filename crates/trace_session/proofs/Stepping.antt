@@ -1,8 +1,7 @@
 -- One step of a session.
-use Rattle.std.proofs.Common.{◌≡◌, ◌≢◌, ℕ, ◌⊎◌, Bool, List, [], ◌∷◌, ◌++◌, Option, None, Some, refl, sym, ap, ◌∙◌, subst, inl, inr}
+use Rattle.std.proofs.Common.{◌≡◌, ◌≢◌, ℕ, ◌⊎◌, Bool, List, [], ◌++◌, Option, None, Some, refl, sym, ◌∙◌, subst, inl, inr}
 use Rattle.trace_base.specs.Outside.{Told}
 use Rattle.hall_trait.specs.Seat.{Seat}
-use Rattle.session_proto.specs.Reply.{reply_text}
 use Rattle.session_proto.specs.declared.reply.No.TheVariants as no
 use Rattle.session_proto.specs.declared.reply.Reply.{Reply}
 use Rattle.session_proto.specs.declared.reply.Reply.TheVariants as reply
@@ -11,10 +10,9 @@ use Rattle.request_reader.proofs.Cutting.{first_request-nil}
 use Rattle.request_reader.specs.Requests.{WholeRequest, Put, Flat, Quit, Unreadable, first_request}
 use Rattle.request_reader.specs.declared.incoming.Incoming.{Incoming}
 use Rattle.request_reader.specs.declared.incoming.Incoming.TheVariants as incoming
-use Rattle.trace_session.specs.Output.{WritesFront}
 use Rattle.trace_session.specs.Serve.{IsRequest, Is}
 use Rattle.trace_session.specs.Serving.{Serves}
-use Rattle.trace_session.specs.Step.{EndsEarly, Steps, TakesOne, AnswersOne, EndsWith, WritesText}
+use Rattle.trace_session.specs.Step.{EndsEarly, Steps, AnswersOne, EndsWith, WritesText}
 use Rattle.trace_session.specs.Text.{IsTold}
 use Rattle.trace_session.specs.declared.sessions.End.{End}
 use Rattle.trace_session.specs.declared.sessions.End.TheVariants as ends

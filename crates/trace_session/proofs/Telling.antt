@@ -1,5 +1,5 @@
 -- What objects of the outside tell, from one state to the next; and which reply is told.
-use Rattle.std.proofs.Common.{◌≡◌, ℕ, ◌⊎◌, ⊎_elim, Bool, true, false, List, [], ◌∷◌, ◌++◌, Option, None, Some, option_to_list, refl, sym, ap, ◌∙◌, subst, inl, inr}
+use Rattle.std.proofs.Common.{length, ◌≡◌, ℕ, Bool, true, false, List, ◌++◌, Option, None, Some, option_to_list, refl, sym, ap, subst, inl, inr}
 use Rattle.trace_base.specs.Outside.{Told}
 use Rattle.hall_trait.specs.History.{Entry}
 use Rattle.hall_trait.specs.Seat.{Seat}
@@ -9,7 +9,7 @@ use Rattle.session_proto.specs.declared.reply.No.TheVariants as no
 use Rattle.session_proto.specs.declared.reply.Reply.{Reply}
 use Rattle.session_proto.specs.declared.reply.Reply.TheVariants as reply
 use Rattle.request_reader.specs.Requests.{WholeRequest, Put, Flat, Quit, Unreadable}
-use Rattle.trace_session.specs.Served.{IsAnswered, IsSpent, OwnEntries, last_place, spent_number}
+use Rattle.trace_session.specs.Served.{IsAnswered, OwnEntries, last_place, spent_number}
 use Rattle.trace_session.specs.Replies.{reply_at}
 use Rattle.trace_session.specs.Serving.{Serves, RecordsReply}
 
@@ -38,29 +38,29 @@ told_same {X} R a b f is = subst (λ (o : Option X). Told a o R) (sym is) (kept 
     kept None = tt
 
 -- a profile that was answered has its entries, and may be told as want of memory
-profile_own : (alone : Bool) (history : List Entry) (k : ℕ) (request : WholeRequest) (r : Reply) (entries : List Entry) → is_short r ≡ false → r ≡ reply_at history k request → OwnEntries alone history k request r entries → (block : List ℕ) → IsAnswered alone history request block entries (reply.No no.Memory)
-profile_own alone history k (Put text) (reply.Flat over bare rows place) entries long is own block = absurd own
-profile_own alone history k (Put text) (reply.Put id tracks functions messages place) entries long is own block = absurd (cc)
-profile_own alone history k (Put text) reply.Quit entries long is own block = absurd (cc)
-profile_own alone history k (Put text) (reply.No n) entries long is own block = absurd (cc)
-profile_own alone history k (Flat id a b) r entries long is own block = inr (inr (refl, inr own))
-profile_own alone history k Quit (reply.Flat over bare rows place) entries long is own block = absurd (cc)
-profile_own alone history k Quit (reply.Put id tracks functions messages place) entries long is own block = absurd (cc)
-profile_own alone history k Quit reply.Quit entries long is own block = absurd (cc)
-profile_own alone history k Quit (reply.No n) entries long is own block = absurd (cc)
-profile_own alone history k Unreadable (reply.Flat over bare rows place) entries long is own block = absurd (cc)
-profile_own alone history k Unreadable (reply.Put id tracks functions messages place) entries long is own block = absurd (cc)
-profile_own alone history k Unreadable reply.Quit entries long is own block = absurd (cc)
-profile_own alone history k Unreadable (reply.No n) entries long is own block = absurd (cc)
+profile_own : (alone : Bool) (history : List Entry) (k : ℕ) (request : WholeRequest) (r : Reply) (entries : List Entry) → is_short r ≡ false → r ≡ reply_at history k request → OwnEntries alone history k request r entries → (before : ℕ) (block : List ℕ) → IsAnswered alone history before request block entries (reply.No no.Memory)
+profile_own alone history k (Put text) (reply.Flat over bare rows place) entries long is own before block = absurd own
+profile_own alone history k (Put text) (reply.Put id tracks functions messages place) entries long is own before block = absurd (cc)
+profile_own alone history k (Put text) reply.Quit entries long is own before block = absurd (cc)
+profile_own alone history k (Put text) (reply.No n) entries long is own before block = absurd (cc)
+profile_own alone history k (Flat id a b) r entries long is own before block = inr (inr (refl, inr own))
+profile_own alone history k Quit (reply.Flat over bare rows place) entries long is own before block = absurd (cc)
+profile_own alone history k Quit (reply.Put id tracks functions messages place) entries long is own before block = absurd (cc)
+profile_own alone history k Quit reply.Quit entries long is own before block = absurd (cc)
+profile_own alone history k Quit (reply.No n) entries long is own before block = absurd (cc)
+profile_own alone history k Unreadable (reply.Flat over bare rows place) entries long is own before block = absurd (cc)
+profile_own alone history k Unreadable (reply.Put id tracks functions messages place) entries long is own before block = absurd (cc)
+profile_own alone history k Unreadable reply.Quit entries long is own before block = absurd (cc)
+profile_own alone history k Unreadable (reply.No n) entries long is own before block = absurd (cc)
 
 -- a line is not long
 not_long : (n : No) (r : Reply) → r ≡ reply.No n → is_short r ≡ false → ⊥
 not_long n r is long = let short : is_short r ≡ true = ap is_short is in cc
 
-profile_answered : (alone : Bool) (history : List Entry) (request : WholeRequest) (block : List ℕ) (entries : List Entry) (r : Reply) → is_short r ≡ false → IsAnswered alone history request block entries r → IsAnswered alone history request block entries (reply.No no.Memory)
-profile_answered alone history request block entries r long (inl own) = profile_own alone history (last_place block) request r entries long own.0 own.1 block
-profile_answered alone history request block entries r long (inr (inl spent)) = absurd (not_long (no.Spent spent.1) r spent.2 long)
-profile_answered alone history request block entries r long (inr (inr memory)) = absurd (not_long no.Memory r memory.0 long)
+profile_answered : (alone : Bool) (history : List Entry) (before : ℕ) (request : WholeRequest) (block : List ℕ) (entries : List Entry) (r : Reply) → is_short r ≡ false → IsAnswered alone history before request block entries r → IsAnswered alone history before request block entries (reply.No no.Memory)
+profile_answered alone history before request block entries r long (inl own) = profile_own alone history (last_place block) request r entries long own.0 own.1 before block
+profile_answered alone history before request block entries r long (inr (inl spent)) = absurd (not_long (no.Spent spent.1) r spent.2 long)
+profile_answered alone history before request block entries r long (inr (inr memory)) = absurd (not_long no.Memory r memory.0 long)
 
 long_number : (r : Reply) → is_short r ≡ false → spent_number r ≡ None
 long_number (reply.Flat over bare rows place) long = refl
@@ -74,7 +74,7 @@ Serves-untold alone old new limits limits' request r long s = record {
   block = s.block;
   entries = s.entries;
   grows = s.grows;
-  answered = profile_answered alone new.seen request s.block s.entries r long s.answered;
+  answered = profile_answered alone new.seen (length old.seen) request s.block s.entries r long s.answered;
   rest = s.rest;
   records = record_none;
 }

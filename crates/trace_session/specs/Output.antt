@@ -1,7 +1,6 @@
 -- What is written where a sink fails.
-use Rattle.std.specs.Prelude.{◌≡◌, ℕ, List, ◌++◌}
-use Rattle.hall_trait.specs.Seat.{Begins}
+use Rattle.std.specs.Prelude.{◌≡◌, ◌≢◌, ℕ, List, [], ◌++◌}
 
--- a front of the bytes was added
+-- a front of the bytes was added, and some are left
 abbrev pub WritesFront : List ℕ → List ℕ → List ℕ → Type 0
-WritesFront bytes was now = (front : List ℕ) × Begins front bytes × (now ≡ was ++ front)
+WritesFront bytes was now = (front rest : List ℕ) × (bytes ≡ front ++ rest) × (rest ≢ []) × (now ≡ was ++ front)

@@ -1,9 +1,9 @@
 -- A request that a session served: the places of its own entries, what these are, and its reply.
-use Rattle.std.specs.Prelude.{◌≡◌, ℕ, ◌+◌, ◌-◌, ◌≤◌, ◌⊎◌, Bool, zero, suc, List, [], ◌∷◌, ◌++◌, length, take, map, flat_map, filter_map, Option, None, Some}
+use Rattle.std.specs.Prelude.{◌≡◌, ℕ, ◌+◌, ◌-◌, ◌≤◌, ◌<◌, ◌⊎◌, Bool, zero, suc, List, [], ◌∷◌, ◌++◌, length, take, map, flat_map, filter_map, Option, None, Some}
 use Rattle.std.specs.Bool.{OnTrue}
 use Rattle.trace_base.specs.declared.stream.TrackStream.{TrackStream}
 use Rattle.trace_base.specs.declared.text.TraceText.{TraceText}
-use Rattle.hall_trait.specs.Answers.{HasRoom, LacksRoom}
+use Rattle.hall_trait.specs.Answers.{HasRoom, LeavesNoRoom, places_taken}
 use Rattle.hall_trait.specs.History.{Entry, Opened, Published, Sealed, Dropped, Asked, open_ids}
 use Rattle.session_proto.specs.Reply.{reply_text}
 use Rattle.session_proto.specs.declared.reply.No.TheVariants as no
@@ -13,9 +13,11 @@ use Rattle.small_form.specs.SmallForm.{small_form, info_of}
 use Rattle.trace_session.specs.Replies.{entry_at, reply_at}
 use Rattle.request_reader.specs.Requests.{WholeRequest, Put, Flat, Quit, Unreadable}
 
--- the request, its block, which is the places of its entries, rising, and its reply
+-- the request, how many entries the seat had seen when it came, its block, which is the places of its entries, and its
+-- reply
 pub record Served : Type 0 where
   pub request : WholeRequest
+  pub before : ℕ
   pub block : List ℕ
   pub reply : Reply
 
@@ -35,6 +37,11 @@ dropped_entries id t n = Opened id (info_of t) ∷ published_from id 0 (take n t
 -- the block has these entries at its places
 abbrev pub AreAt : List Entry → List ℕ → List Entry → Type 0
 AreAt history block entries = map (entry_at history) block ≡ map Some entries
+
+-- the places rise, from above n on, and are at most m
+abbrev pub Rise : ℕ → List ℕ → ℕ → Type 0
+Rise n [] m = n ≤ m
+Rise n (k ∷ block) m = (n < k) × Rise k block m
 
 -- the last place of a block, 0 where it has none
 abbrev pub last_place : List ℕ → ℕ
@@ -66,12 +73,12 @@ Needs (Flat id a b) n = n ≡ 1
 Needs Quit n = ⊥
 Needs Unreadable n = ⊥
 
--- A number was used up: nothing is entered. A session that is alone in its hall finds that the places which it needs
--- don't fit, behind the first m entries.
-abbrev pub IsSpent : Bool → List Entry → WholeRequest → Reply → List Entry → Type 0
-IsSpent alone history request r entries =
-    (n p : ℕ) × (r ≡ reply.No (no.Spent p)) × (entries ≡ []) × Needs request n
-    × OnTrue alone ((m : ℕ) × (m ≤ length history) × LacksRoom (take m history) n p)
+-- The places are used up: nothing is entered. Those that the request needs don't fit behind p places that are taken or
+-- promised. In a session that is alone in its hall these are the ones of the entries that it had seen before.
+abbrev pub IsSpent : Bool → List Entry → ℕ → WholeRequest → Reply → List Entry → Type 0
+IsSpent alone history before request r entries =
+    (n p : ℕ) × (r ≡ reply.No (no.Spent p)) × (entries ≡ []) × Needs request n × LeavesNoRoom n p
+    × (before ≤ length history) × OnTrue alone (p ≡ places_taken (take before history))
 
 -- The entries that want of memory may leave: of a query that it asked, and of a text that its load was given up. QUIT
 -- and a line that isn't read never meet it.
@@ -81,16 +88,16 @@ MayLeave (Flat id a b) entries = (entries ≡ []) ⊎ (entries ≡ Asked ∷ [])
 MayLeave Quit entries = ⊥
 MayLeave Unreadable entries = ⊥
 
--- the reply is the request's own at the last place of its block, or a number was used up, or there was no memory
-abbrev pub IsAnswered : Bool → List Entry → WholeRequest → List ℕ → List Entry → Reply → Type 0
-IsAnswered alone history request block entries r =
+-- the reply is the request's own at the last place of its block, or the places are used up, or there was no memory
+abbrev pub IsAnswered : Bool → List Entry → ℕ → WholeRequest → List ℕ → List Entry → Reply → Type 0
+IsAnswered alone history before request block entries r =
     ((r ≡ reply_at history (last_place block) request) × OwnEntries alone history (last_place block) request r entries)
-    ⊎ IsSpent alone history request r entries
+    ⊎ IsSpent alone history before request r entries
     ⊎ ((r ≡ reply.No no.Memory) × MayLeave request entries)
 
 -- the request was served, in this history
 abbrev pub IsServed : Bool → List Entry → Served → Type 0
-IsServed alone history x = (entries : List Entry) × AreAt history x.block entries × IsAnswered alone history x.request x.block entries x.reply
+IsServed alone history x = (entries : List Entry) × AreAt history x.block entries × IsAnswered alone history x.before x.request x.block entries x.reply
 
 -- the places of all blocks, the texts of all replies, and the numbers that were told to be used up, in order
 abbrev pub blocks_of : List Served → List ℕ

@@ -1,16 +1,18 @@
 -- How serving a request changes the seat.
-use Rattle.std.specs.Prelude.{◌≡◌, ℕ, Bool, List, [], ◌++◌, Option, option_to_list}
+use Rattle.std.specs.Prelude.{◌≡◌, ℕ, Bool, List, [], ◌++◌, length, Option, option_to_list}
 use Rattle.std.specs.Bool.{OnTrue}
 use Rattle.trace_base.specs.Outside.{Told}
 use Rattle.hall_trait.specs.History.{Entry}
 use Rattle.hall_trait.specs.Seat.{Seat, Begins, IsAtRest}
 use Rattle.session_proto.specs.declared.reply.Reply.{Reply}
 use Rattle.request_reader.specs.Requests.{WholeRequest}
-use Rattle.trace_session.specs.Served.{AreAt, IsAnswered, spent_number}
+use Rattle.trace_session.specs.Served.{AreAt, Rise, IsAnswered, spent_number}
 
--- The seat made these entries, at the places of the block, and no others. A seat that is alone saw no others either.
+-- The seat made these entries, at the places of the block, which rise behind what it had seen, and no others. A seat that
+-- is alone saw no others either.
 pub record Grows (alone : Bool) (old new : Seat) (block : List ℕ) (entries : List Entry) : Type 0 where
   pub at : AreAt new.seen block entries
+  pub rises : Rise (length old.seen) block (length new.seen)
   pub places : new.places ≡ old.places ++ block
   pub seen : Begins old.seen new.seen
   pub lone : OnTrue alone (new.seen ≡ old.seen ++ entries)
@@ -24,6 +26,6 @@ pub record Serves (alone : Bool) (old new : Seat) (limits limits' : Option (List
   pub block : List ℕ
   pub entries : List Entry
   pub grows : Grows alone old new block entries
-  pub answered : IsAnswered alone new.seen request block entries reply
+  pub answered : IsAnswered alone new.seen (length old.seen) request block entries reply
   pub rest : IsAtRest new
   pub records : RecordsReply limits limits' reply

@@ -1,10 +1,14 @@
 -- What a session did: the requests that it served, and what it wrote, read and left.
-use Rattle.std.specs.Prelude.{◌≡◌, ◌≢◌, ℕ, Bool, List, [], ◌∷◌, ◌++◌, map, Option}
+use Rattle.std.specs.Prelude.{◌≡◌, ◌≢◌, ℕ, ◌+◌, Bool, List, [], ◌∷◌, ◌++◌, length, map, Option}
+use Rattle.std.specs.Bool.{OnTrue}
 use Rattle.std.specs.List.{AllByRecursion}
 use Rattle.trace_base.specs.Outside.{Told}
+use Rattle.hall_trait.specs.History.{IsLegalHistory}
 use Rattle.hall_trait.specs.Seat.{Seat, Begins, IsAtRest}
+use Rattle.session_proto.specs.Reply.{reply_text}
 use Rattle.request_reader.specs.Requests.{WholeRequest, Requests, Ending, AfterQuit, Between, Inside, requests_of}
-use Rattle.trace_session.specs.Served.{Served, IsServed, blocks_of, output_of, spent_numbers}
+use Rattle.trace_session.specs.Output.{WritesFront}
+use Rattle.trace_session.specs.Served.{Served, IsServed, Rise, blocks_of, output_of, spent_numbers}
 use Rattle.trace_session.specs.declared.sessions.End.{End}
 use Rattle.trace_session.specs.declared.sessions.End.TheVariants as ends
 
@@ -22,25 +26,44 @@ Answers ends.Cut asked served = asked ≡ record { all = requests_served served;
 Answers ends.ReadFault asked served = (asked.all ≡ requests_served served) × (asked.ending ≢ AfterQuit)
 Answers ends.WriteFault asked served = Begins (requests_served served) asked.all
 
+-- nothing is left to read where the session ended with its source
+abbrev pub LeavesNone : End → List ℕ → Type 0
+LeavesNone ends.Quit now = Unit {0}
+LeavesNone ends.Eof now = now ≡ []
+LeavesNone ends.Cut now = now ≡ []
+LeavesNone ends.ReadFault now = Unit {0}
+LeavesNone ends.WriteFault now = Unit {0}
+
 -- the bytes that the source gave, and what was served of them
 abbrev pub ReadsRequests : End → List ℕ → List ℕ → List Served → Type 0
-ReadsRequests end was now served = (given : List ℕ) × (was ≡ given ++ now) × Answers end (requests_of given) served
+ReadsRequests end was now served = (given : List ℕ) × (was ≡ given ++ now) × Answers end (requests_of given) served × LeavesNone end now
 
--- All replies were written, one after another; where the sink failed, a front of them.
+-- All replies were written, one after another; where the sink failed, all but the last, and of that a front alone.
 abbrev pub WritesReplies : End → List ℕ → List ℕ → List Served → Type 0
-WritesReplies ends.WriteFault was now served = (front : List ℕ) × Begins front (output_of served) × (now ≡ was ++ front)
+WritesReplies ends.WriteFault was now served =
+    (earlier : List Served) × (last : Served) × (served ≡ earlier ++ last ∷ []) × WritesFront (reply_text last.reply) (was ++ output_of earlier) now
 WritesReplies ends.Quit was now served = now ≡ was ++ output_of served
 WritesReplies ends.Eof was now served = now ≡ was ++ output_of served
 WritesReplies ends.Cut was now served = now ≡ was ++ output_of served
 WritesReplies ends.ReadFault was now served = now ≡ was ++ output_of served
 
--- A session over a seat, from old to new. Each request was served in the history that the seat has seen at its end, its
--- new places are the blocks in order and nothing else, and it is left at rest.
+-- Each request came when the seat had seen so many entries: n of them at the first, and m behind the last. The places of
+-- its block lie behind these and among those that were seen when the next one came.
+abbrev pub ComeInOrder : ℕ → List Served → ℕ → Type 0
+ComeInOrder n [] m = n ≡ m
+ComeInOrder n (x ∷ served) m = (x.before ≡ n) × (after : ℕ) × Rise n x.block after × ComeInOrder after served m
+
+-- A session over a seat, from old to new. Each request was served in the history that the seat has seen at its end, which
+-- is legal. The seat's new places are the blocks in order and nothing else, and a seat that is alone saw no entries but
+-- those. It is left at rest.
 pub record IsSession (alone : Bool) (old new : Seat) (limits limits' left left' held held' : Option (List ℕ)) (end : End) : Type 0 where
   pub served : List Served
   pub each : AllByRecursion (IsServed alone new.seen) served
   pub seen : Begins old.seen new.seen
+  pub legal : IsLegalHistory new.seen
+  pub order : ComeInOrder (length old.seen) served (length new.seen)
   pub places : new.places ≡ old.places ++ blocks_of served
+  pub lone : OnTrue alone (length new.seen ≡ length old.seen + length (blocks_of served))
   pub rest : IsAtRest new
   pub records : Told limits limits' (λ was now. now ≡ was ++ spent_numbers served)
   pub input : Told left left' (λ was now. ReadsRequests end was now served)

@@ -17,20 +17,21 @@ use trace_base::{Sink, Source};
 /// How a session ended.
 #[derive(Clone, Copy, Debug, PartialEq, Eq)]
 pub enum End {
-    /// QUIT was read, and all replies were written.
+    /// The last request was QUIT. Each request has its reply.
     Quit,
-    /// The source ended between two requests, and all replies were written.
+    /// Nothing is left to read, and no request was begun. Each request has its reply.
     Eof,
-    /// The source ended inside a request. The replies to all whole requests were written.
+    /// Nothing is left to read, and a request was begun. Each request before it has its reply.
     Cut,
-    /// The source failed. The replies to all whole requests were written.
+    /// The source failed. Each request that was whole by then has its reply.
     ReadFault,
-    /// The sink failed.
+    /// The sink failed. Each request but the last that was read has its reply.
     WriteFault,
 }
 
-/// Serves the requests of a source over a seat of a hall, in order, and writes the reply of each before it reads the
-/// next. It ends behind QUIT, where the source ends, or where the source or the sink fails. It may wait for input.
+/// Serves the requests of a source over a seat of a hall, one after the other: each is read, answered, and its reply
+/// written. The session ends behind QUIT, where nothing is left to read, or where the source or the sink fails. It may
+/// wait for input.
 pub fn session<R: Wait, H: Hall, I: Source, O: Sink>(
     rt: &R,
     alloc: Global,

@@ -212,18 +212,19 @@ fn input_cut_at_every_byte(rt: HostRuntime) -> Result<(), Fail> {
     Ok(())
 }
 
+// A call of the sink takes up to 50 bytes. The replies have 18, 72 and 8, so there are four calls.
 #[test]
-fn faults(rt: HostRuntime) -> Result<(), Fail> {
+fn a_failing_sink_holds_what_it_took(rt: HostRuntime) -> Result<(), Fail> {
     let alloc = rt.alloc();
     let text = first_session(alloc)?;
-    let (end, written) = served(&rt, alloc, text.as_bytes(), 100, &[0], &[])?;
-    assert_eq!(rt; end, End::ReadFault);
-    assert_eq!(rt; written.len(), 0);
-    for call in 0..3u64 {
-        let (end, written) = served(&rt, alloc, text.as_bytes(), 100, &[], &[call])?;
-        assert_eq!(rt; end, End::WriteFault);
-        assert!(rt; REPLIES.as_bytes().starts_with(written.as_slice()));
-        assert!(rt; written.len() < REPLIES.len());
+    for (call, count) in [(0, 0), (1, 18), (2, 68), (3, 90)] {
+        let (end, written) = served(&rt, alloc, text.as_bytes(), 50, &[], &[call])?;
+        assert_eq!(rt; end, End::WriteFault, "at call {call}");
+        assert_eq!(rt; written.len(), count, "at call {call}");
+        assert!(rt;
+            REPLIES.as_bytes().starts_with(written.as_slice()),
+            "at call {call}"
+        );
     }
     Ok(())
 }
@@ -257,36 +258,59 @@ fn one_byte_a_call(rt: HostRuntime) -> Result<(), Fail> {
     Ok(())
 }
 
+// The status of the program for these words, and what it writes. `sink_fails` lists the calls of the sink that fail.
+fn ran(
+    rt: &impl Wait,
+    alloc: Global,
+    words: &[&str],
+    input: &mut MemSource,
+    sink_fails: &[u64],
+) -> Result<(u8, Vec<u8>), Fail> {
+    let mut owned = Vec::new(alloc);
+    for word in words {
+        owned.push(String::from_str(alloc, word)?)?;
+    }
+    let mut output = MemSink::new(alloc, 100, Seq::from_slice(alloc, sink_fails)?);
+    let status = run(rt, alloc, owned.as_slice(), input, &mut output);
+    Ok((status, Vec::from_slice(alloc, output.written())?))
+}
+
 #[test]
-fn statuses(rt: HostRuntime) -> Result<(), Fail> {
+fn other_words_have_status_2_and_the_usage_line(rt: HostRuntime) -> Result<(), Fail> {
     let alloc = rt.alloc();
-    let mut words = Vec::new(alloc);
-    let mut input = MemSource::new(Seq::new(alloc), Seq::new(alloc));
-    let mut output = MemSink::new(alloc, 100, Seq::new(alloc));
-    assert_eq!(rt;
-        run(&rt, alloc, words.as_slice(), &mut input, &mut output),
-        2
-    );
-    assert_eq!(rt;
-        output.written(),
-        "usage: cccgd batch, cccgd serve <addr> <workers> <each>, cccgd gen <seed> <size>\n".as_bytes()
-    );
-    words.push(String::from_str(alloc, "batch")?)?;
-    assert_eq!(rt;
-        run(&rt, alloc, words.as_slice(), &mut input, &mut output),
-        0
-    );
-    let mut cut = MemSource::new(Seq::from_slice(alloc, b"LIS".as_slice())?, Seq::new(alloc));
-    assert_eq!(rt; run(&rt, alloc, words.as_slice(), &mut cut, &mut output), 6);
-    let mut failing = MemSource::new(Seq::new(alloc), Seq::from_slice(alloc, &[0])?);
-    assert_eq!(rt;
-        run(&rt, alloc, words.as_slice(), &mut failing, &mut output),
-        3
-    );
-    words.push(String::from_str(alloc, "x")?)?;
-    assert_eq!(rt;
-        run(&rt, alloc, words.as_slice(), &mut input, &mut output),
-        2
-    );
+    let usage =
+        "usage: cccgd batch, cccgd serve <addr> <workers> <each>, cccgd gen <seed> <size>\n";
+    let rows: [&[&str]; 4] = [&[], &["batch", "x"], &["serve"], &["Batch"]];
+    for words in rows {
+        let mut input = MemSource::new(Seq::new(alloc), Seq::new(alloc));
+        let (status, written) = ran(&rt, alloc, words, &mut input, &[])?;
+        assert_eq!(rt; status, 2, "for {words:?}");
+        assert_eq!(rt; written.as_slice(), usage.as_bytes(), "for {words:?}");
+        let (status, written) = ran(&rt, alloc, words, &mut input, &[0])?;
+        assert_eq!(rt; status, 3, "for {words:?}");
+        assert_eq!(rt; written.len(), 0, "for {words:?}");
+    }
+    Ok(())
+}
+
+#[test]
+fn batch_has_the_status_of_its_end(rt: HostRuntime) -> Result<(), Fail> {
+    let alloc = rt.alloc();
+    let rows: [(&[u8], &[u64], &[u64], u8); 6] = [
+        (b"", &[], &[], 0),
+        (b"QUIT\n", &[], &[], 0),
+        (b"LIST\n", &[], &[], 0),
+        (b"LIS", &[], &[], 6),
+        (b"", &[0], &[], 3),
+        (b"QUIT\n", &[], &[0], 3),
+    ];
+    for (text, source_fails, sink_fails, wanted) in rows {
+        let mut input = MemSource::new(
+            Seq::from_slice(alloc, text)?,
+            Seq::from_slice(alloc, source_fails)?,
+        );
+        let (status, _) = ran(&rt, alloc, &["batch"], &mut input, sink_fails)?;
+        assert_eq!(rt; status, wanted, "for {text:?}");
+    }
     Ok(())
 }

@@ -1,18 +1,13 @@
-use Rattle.std.proofs.Common.{◌≡◌, ℕ, List, Option, Result, Ok, Err, Some, None, refl, sym, ap, ◌∙◌, subst}
+use Rattle.std.proofs.Common.{◌≡◌, ℕ, Option, Result, Ok, Err, sym, ap, ◌∙◌, subst}
 use Rattle.std.specs.Arc.{arc_value}
 use Rattle.trace_base.specs.declared.names.TraceInfo.{TraceInfo}
-use Rattle.hall_trait.specs.Answers.{Admits, AdmitRecords, RecordsNone}
+use Rattle.hall_trait.specs.Answers.{Admits, AdmitRecords}
 use Rattle.hall_trait.specs.declared.answers.HallFault.{HallFault}
 use Rattle.hall_trait.specs.declared.answers.HallFault.TheVariants as fault
 use Rattle.hall_trait.specs.declared.pass.LoadPass.{LoadPass}
-use Rattle.session_proto.specs.declared.reply.No.TheVariants as no
-use Rattle.session_proto.specs.declared.reply.Reply.{Reply}
-use Rattle.session_proto.specs.declared.reply.Reply.TheVariants as reply
 use Rattle.small_form.specs.SmallForm.{info_of}
-use Rattle.request_reader.specs.Requests.{Put}
 use Rattle.trace_session.specs.Load.{Publishes}
-use Rattle.trace_session.specs.Serving.{Serves}
-use Rattle.trace_session.proofs.Opening.{put_memory, Serves-opened, Serves-dropped, Serves-spent, Serves-full, Serves-refused, info_with}
+use Rattle.trace_session.proofs.Opening.{put_memory, Serves-opened, Serves-dropped, Serves-refused, info_with}
 use Rattle.trace_session.proofs.load.open_trace.Goals as goal
 
 pub returns-in_default : goal.returns-in_default

@@ -1,11 +1,7 @@
-use Rattle.std.proofs.Common.{◌≡◌, ◌++◌, ◌∷◌, [], ℕ, List, length, take, refl, sym, ap, ◌∙◌, subst, rules, append_assoc, append-nil, arith}
+use Rattle.std.proofs.Common.{◌≡◌, ◌++◌, ◌∷◌, [], List, length, refl, sym, ap, ◌∙◌, rules, append_assoc, append-nil, arith}
 use Rattle.std.proofs.lemmas.List.{nil_from_length}
 use Rattle.std.specs.Vec.Iter.{into_iter_items}
 use Rattle.trace_base.specs.declared.stream.TrackStream.{TrackStream}
-use Rattle.hall_trait.specs.History.{Entry, Sealed, Dropped}
-use Rattle.hall_trait.specs.Seat.{IsAtRest}
-use Rattle.trace_session.specs.Served.{published_from, last_place}
-use Rattle.trace_session.specs.Serving.{Grows}
 use Rattle.trace_session.proofs.Loading.{Loading-start, Loading-next, Loading-more, Loading-same, Loading-dropped, Loading-sealed}
 use Rattle.trace_session.proofs.load.publish_all.Goals as goal
 

@@ -1,4 +1,4 @@
-use Rattle.std.proofs.Common.{◌≡◌, ◌≤◌, ℕ, Option, Some, length, ap, ◌∙◌, arith}
+use Rattle.std.proofs.Common.{Option, length, ap, ◌∙◌, arith}
 use Rattle.std.specs.Arc.{arc_value}
 use Rattle.std.specs.Option.{option_map_or}
 use Rattle.trace_base.specs.declared.names.TraceInfo.{TraceInfo}

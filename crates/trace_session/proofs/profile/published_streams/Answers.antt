@@ -1,11 +1,7 @@
-use Rattle.std.proofs.Common.{◌≡◌, ◌+◌, ◌++◌, ◌∷◌, [], List, Option, Some, None, Bor, Vec, Global, take, refl, sym, ap, ◌∙◌, subst, arith, length}
-use Rattle.std.specs.List.{All}
-use Rattle.std.specs.Option.{option_copied}
-use Rattle.trace_base.specs.Stream.{IsLegal}
+use Rattle.std.proofs.Common.{◌≡◌, ◌+◌, List, Some, None, Bor, Vec, Global, take, sym, ap, ◌∙◌, subst}
 use Rattle.trace_base.specs.declared.stream.TrackStream.{TrackStream}
 use Rattle.hall_trait.specs.History.{stream_of}
 use Rattle.hall_trait.specs.Pin.{first_id}
-use Rattle.trace_session.specs.Replies.{streams_of}
 use Rattle.trace_session.proofs.Streams.{Collected, collected_none, collected_some}
 use Rattle.trace_session.proofs.profile.published_streams.Goals as goal
 use Rattle.trace_session.proofs.profile.published_streams.Goals.{in-Some+in_ok-push, in_default}

@@ -1,11 +1,10 @@
-use Rattle.std.proofs.Common.{◌≡◌, ◌⊎◌, ℕ, length, take, sym, ap, ◌∙◌, subst}
+use Rattle.std.proofs.Common.{◌≡◌, ◌⊎◌, ℕ, length, take, ap, ◌∙◌, subst}
 use Rattle.trace_base.specs.Flat.{flat}
 use Rattle.trace_base.specs.declared.asks.AskIds.TheVariants.{One}
 use Rattle.hall_trait.specs.Answers.{Asks, AskRecords}
 use Rattle.hall_trait.specs.Pin.{pin_view, first_id}
 use Rattle.hall_trait.specs.Seat.{Seat, Removes, MakesNoEntry}
 use Rattle.hall_trait.specs.declared.answers.AskAnswer.{AskAnswer}
-use Rattle.hall_trait.specs.declared.answers.AskAnswer.TheVariants as answer
 use Rattle.session_proto.specs.declared.reply.No.TheVariants as no
 use Rattle.session_proto.specs.declared.reply.Reply.TheVariants as reply
 use Rattle.trace_session.specs.Replies.{profile_reply, streams_of, functions_of}

@@ -1,4 +1,4 @@
-use Rattle.std.proofs.Common.{◌≡◌, ℕ, Bool, List, length, true, arith, sym, ap, ◌∙◌, subst, codes, Decides}
+use Rattle.std.proofs.Common.{◌≡◌, ℕ, Bool, List, arith, sym, ap, ◌∙◌, subst, codes, Decides}
 use Rattle.std.proofs.lemmas.Slice.Eq.{bytes_eq-Decides}
 use Rattle.std.specs.Str.{bytes_eq}
 use Rattle.std.specs.String.{string_bytes}

@@ -1,4 +1,4 @@
-use Rattle.std.proofs.Common.{refl, rules}
+use Rattle.std.proofs.Common.{refl}
 use Rattle.std.specs.Fmt.{digits}
 use Rattle.session_proto.specs.Reply.{reply_text}
 use Rattle.trace_session.proofs.rows.texts_of_replies.Goals as goal

@@ -1,4 +1,4 @@
-use Rattle.std.proofs.Common.{◌≡◌, List, ℕ, Option, Some, sym, subst, ap}
+use Rattle.std.proofs.Common.{Option, sym, subst}
 use Rattle.request_reader.specs.Incoming.{left_to_read}
 use Rattle.request_reader.specs.declared.buffer.InputBuf.{InputBuf}
 use Rattle.trace_session.specs.Step.{EndsEarly, Steps}
