@@ -1,15 +1,14 @@
 -- Numbers of decimal digits.
-use Rattle.std.proofs.Common.{◌≡◌, ℕ, ◌+◌, ◌-◌, ◌*◌, ◌^◌, ◌<◌, ◌≤◌, ◌⊎◌, ◌&&◌, inl, inr, List, [], ◌∷◌, ◌++◌, length, take, get_or, Option, Some, None, cond, ltb, leb, Bool, true, false, refl, sym, ◌∙◌, ap, arith, zero, suc}
-use Rattle.std.specs.List.{list_all, prefix_len}
+use Rattle.std.proofs.Common.{◌≡◌, ℕ, ◌+◌, ◌-◌, ◌*◌, ◌^◌, ◌<◌, ◌≤◌, List, length, take, get_or, Some, None, true, false, refl, sym, ◌∙◌, ap, arith}
+use Rattle.std.specs.List.{prefix_len}
 use Rattle.std.specs.Char.{is_ascii_digit}
-use Rattle.std.proofs.lemmas.Bool.{lt-ltb, le-leb, le-ltb}
+use Rattle.std.proofs.lemmas.Bool.{lt-ltb, le-leb}
 use Rattle.std.proofs.lemmas.Bool.Decides.{nat_tests}
 use Rattle.std.proofs.lemmas.List.{take_more}
 use Rattle.std.proofs.lemmas.List.Sums.{prefix_len_is}
-use Rattle.std.proofs.lemmas.Nat.{pow-add}
 use Rattle.std.proofs.Math.Nat.{pow-le-pow_right}
 use Rattle.paje_lex.specs.DateGrammar.{number}
-use Rattle.paje_lex.proofs.Scaling.{number-push, low_push}
+use Rattle.paje_lex.proofs.Scaling.{number-push}
 use Rattle.paje_lex.proofs.DateLemmas.{all_by_prefix, not_all_by_prefix}
 use Rattle.paje_defs.specs.Numbers.{decimal_of}
 

@@ -1,9 +1,8 @@
 -- A number that has a definition is refused.
-use Rattle.std.proofs.Common.{◌≡◌, ℕ, List, Bool, true, false, Option, Some, None, is_some, Result, Ok, Err, sym, ◌∙◌, ap, refl}
+use Rattle.std.proofs.Common.{◌≡◌, ℕ, List, false, Option, Some, None, is_some, Err, sym, ◌∙◌, ap, refl}
 use Rattle.std.proofs.lemmas.Bool.{true≢false}
 use Rattle.paje_defs.specs.declared.names.EventName.{EventName}
 use Rattle.paje_defs.specs.declared.table.Begun.{Begun}
-use Rattle.paje_defs.specs.declared.table.DefFault.{DefFault}
 use Rattle.paje_defs.specs.declared.table.DefFault.TheVariants.{DoubleNumber}
 use Rattle.paje_defs.specs.Names.{event_name_of}
 use Rattle.paje_defs.specs.Numbers.{event_number_of}

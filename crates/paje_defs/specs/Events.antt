@@ -1,6 +1,7 @@
 -- What an event line tells under the definitions.
-use Rattle.std.specs.Prelude.{◌≡◌, ℕ, ◌+◌, List, length, slice_get, Option, Some, None, Ok, Err, Result, MatchResult, if◌then◌else◌, nat_lt}
-use Rattle.std.specs.Option.{option_copied}
+use Rattle.std.specs.Prelude.{◌≡◌, ℕ, ◌+◌, List, length, slice_get, is_some, Option, Some, None, Ok, Err, Result, MatchResult, if◌then◌else◌, nat_lt}
+use Rattle.std.specs.List.{AllByRecursion}
+use Rattle.std.specs.Option.{option_copied, IsSome}
 use Rattle.paje_lex.specs.declared.dates.DateFault.{DateFault}
 use Rattle.paje_lex.specs.DateReading.{date_of}
 use Rattle.paje_defs.specs.declared.names.EventName.{EventName}
@@ -16,7 +17,7 @@ use Rattle.paje_defs.specs.declared.event.EventFault.TheVariants as faults
 use Rattle.paje_defs.specs.declared.event.Texts.{Texts}
 use Rattle.paje_defs.specs.declared.event.Fields.{Fields}
 use Rattle.paje_defs.specs.Numbers.{event_number_of, size_of}
-use Rattle.paje_defs.specs.Places.{place_of}
+use Rattle.paje_defs.specs.Places.{needed, place_of}
 use Rattle.paje_defs.specs.Table.{definition_of}
 
 -- the text of the field at a place: the first token is the number
@@ -114,3 +115,11 @@ pub record AreFields (words : List (List ℕ)) (d : Definition) (f : Fields) : T
 -- the fields of the event that the line tells, or why it tells none
 abbrev pub Tells : List (List ℕ) → Result Fields EventFault → Result Event EventFault → Type 0
 Tells words r wanted = MatchResult r (λ f. (e : Event) × (wanted ≡ Ok e) × (f.time ≡ e.time) × AreFields words e.definition f) (λ fault. wanted ≡ Err fault)
+
+-- a role has a text exactly where the definition has a field of it
+abbrev pub RolesStand : Definition → Fields → Type 0
+RolesStand d f = (role : Role) → is_some (text_of f.texts role) ≡ is_some (place_of d.event d.fields role)
+
+-- each role that the event needs has a text
+abbrev pub HasNeeded : Fields → Type 0
+HasNeeded f = AllByRecursion (λ role. IsSome (text_of f.texts role)) (needed f.kind)

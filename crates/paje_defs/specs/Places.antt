@@ -1,11 +1,10 @@
 -- Which field of a definition has which role.
-use Rattle.std.specs.Prelude.{ℕ, ◌==◌, List, [], ◌∷◌, Bool, true, false, Option, Some, None, if◌then◌else◌, position, is_none}
+use Rattle.std.specs.Prelude.{ℕ, ◌==◌, List, [], ◌∷◌, Bool, Option, Some, None, position, is_none}
 use Rattle.std.specs.List.{find}
 use Rattle.paje_defs.specs.declared.names.EventName.{EventName}
 use Rattle.paje_defs.specs.declared.names.EventName.TheVariants as events
 use Rattle.paje_defs.specs.declared.names.FieldName.{FieldName}
 use Rattle.paje_defs.specs.declared.names.FieldName.TheVariants as names
-use Rattle.paje_defs.specs.declared.names.FieldType.{FieldType}
 use Rattle.paje_defs.specs.declared.names.Role.{Role}
 use Rattle.paje_defs.specs.declared.names.Role.TheVariants as roles
 use Rattle.paje_defs.specs.declared.fields.Field.{Field}

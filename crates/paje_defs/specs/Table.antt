@@ -1,15 +1,15 @@
 -- What the definition lines of a trace make known, a line at a time.
-use Rattle.std.specs.Prelude.{◌≡◌, ℕ, ◌+◌, ◌⊎◌, List, [], ◌∷◌, ◌++◌, map, codes, slice_get, slice_range, nat_eq, Option, Some, None, Ok, Err, Result, MatchResult, if◌then◌else◌}
+use Rattle.std.specs.Prelude.{◌≡◌, ℕ, ◌⊎◌, List, [], ◌∷◌, ◌++◌, map, codes, slice_get, slice_range, nat_eq, Option, Some, None, Ok, Err, Result, MatchResult, if◌then◌else◌}
+use Rattle.std.specs.List.{fold}
 use Rattle.std.specs.Map.{lookup}
+use Rattle.std.specs.Result.{IsOk}
 use Rattle.std.specs.Option.{option_map}
 use Rattle.std.specs.Str.{bytes_eq}
 use Rattle.indexmap.specs.IndexMap.{insert_entry}
 use Rattle.paje_lex.specs.declared.line.Token.{Token}
 use Rattle.paje_defs.specs.declared.names.EventName.{EventName}
-use Rattle.paje_defs.specs.declared.names.FieldName.{FieldName}
 use Rattle.paje_defs.specs.declared.names.FieldType.{FieldType}
 use Rattle.paje_defs.specs.declared.names.Role.{Role}
-use Rattle.paje_defs.specs.declared.fields.Field.{Field}
 use Rattle.paje_defs.specs.declared.table.Definition.{Definition}
 use Rattle.paje_defs.specs.declared.table.Begun.{Begun}
 use Rattle.paje_defs.specs.declared.table.DefTable.{DefTable}
@@ -95,6 +95,10 @@ field d name (Some kind) = field_in d d.begun name kind
 
 -- ---- `%EndEventDef`
 
+-- it has each role that its event needs
+abbrev pub IsWhole : Definition → Type 0
+IsWhole d = missing d.event d.fields ≡ None
+
 abbrev pub end_whole : Defs → Begun → Option Role → Result Defs DefFault
 end_whole d b (Some role) = Err (MissingField role)
 end_whole d b None = Ok (record { complete = insert_entry nat_eq d.complete b.number b.definition; begun = None; fault = d.fault })
@@ -119,26 +123,46 @@ line_after d n words = line_from d n (slice_get words 0) words
 
 -- ---- what a call does
 
--- A step gives what the rule gives. A refusal changes nothing, and is the rule's, or memory ran out.
+-- A step gives what the rule gives. A refusal changes nothing, and is the rule's, or memory ran out for a line that the
+-- rule takes.
 abbrev pub Steps : {U S : Type 0} → S → S → Result U DefFault → Result S DefFault → Type 0
-Steps old new r given = MatchResult r (λ _. given ≡ Ok new) (λ f. (new ≡ old) × ((f ≡ Memory) ⊎ (given ≡ Err f)))
+Steps old new r given = MatchResult r (λ _. given ≡ Ok new) (λ f. (new ≡ old) × (((f ≡ Memory) × IsOk given) ⊎ (given ≡ Err f)))
 
 -- the same definitions, and each later line is refused likewise
 abbrev pub failed : Defs → DefFault → Defs
 failed d f = record { complete = d.complete; begun = d.begun; fault = Some f }
 
--- A line after a refusal is refused likewise. Any other gives what the rule gives, and its refusal stays.
+-- A line after a refusal is refused likewise. Any other gives what the rule gives, and its refusal stays; or memory ran
+-- out for a line that the rule takes.
 abbrev pub Takes : {U : Type 0} → Defs → Defs → Result U DefFault → Result Defs DefFault → Option DefFault → Type 0
 Takes old new r given (Some before) = (r ≡ Err before) × (new ≡ old)
-Takes old new r given None = MatchResult r (λ _. given ≡ Ok new) (λ f. ((f ≡ Memory) × (new ≡ old)) ⊎ ((given ≡ Err f) × (new ≡ failed old f)))
+Takes old new r given None = MatchResult r (λ _. given ≡ Ok new) (λ f. ((f ≡ Memory) × IsOk given × (new ≡ old)) ⊎ ((given ≡ Err f) × (new ≡ failed old f)))
 
 -- ---- many lines
 
 abbrev pub no_defs : Defs
 no_defs = record { complete = []; begun = None; fault = None }
 
--- the definitions after each of these lines in turn, the first of them numbered n, or the first refusal
-abbrev pub after_lines : Result Defs DefFault → ℕ → List (List (List ℕ)) → Result Defs DefFault
-after_lines r n [] = r
-after_lines (Err f) n (words ∷ lines) = Err f
-after_lines (Ok d) n (words ∷ lines) = after_lines (line_after d n words) (n + 1) lines
+-- a line of the text: its number there, and its words
+abbrev pub Line : Type 0
+Line = ℕ × List (List ℕ)
+
+-- what a line makes of definitions, by the refusal before it and by what the rule gives
+abbrev pub next : Defs → Option DefFault → Result Defs DefFault → Defs
+next d (Some before) given = d
+next d None (Ok new) = new
+next d None (Err f) = failed d f
+
+abbrev pub with_line : Defs → Line → Defs
+with_line d line = next d d.fault (line_after d line.0 line.1)
+
+-- the definitions of these lines up to the first that is refused, and its refusal
+abbrev pub defs_of_lines : List Line → Defs
+defs_of_lines lines = fold with_line no_defs lines
+
+-- A table of the lines before has taken one more, or tells the first refusal among them; where memory ran out it is as
+-- before.
+abbrev pub TakesNext : {U : Type 0} → List Line → Line → Defs → Result U DefFault → Type 0
+TakesNext before line new r = MatchResult r
+    (λ _. (new ≡ defs_of_lines (before ++ line ∷ [])) × (new.fault ≡ None))
+    (λ f. ((f ≡ Memory) × (new ≡ defs_of_lines before)) ⊎ ((new ≡ defs_of_lines (before ++ line ∷ [])) × (new.fault ≡ Some f)))

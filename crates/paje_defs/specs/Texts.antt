@@ -1,5 +1,6 @@
 -- Lines as their bytes, for the worked rows.
-use Rattle.std.specs.Prelude.{ℕ, List, [], ◌∷◌, map, codes, Option, Some, None, Ok, Err, Result}
+use Rattle.std.specs.Prelude.{ℕ, List, [], ◌∷◌, length, map, codes, Option, Ok, Err, Result}
+use Rattle.std.specs.List.{range_with_len, zip}
 use Rattle.paje_lex.specs.declared.line.Token.{Token}
 use Rattle.paje_lex.specs.declared.line.LexFault.{LexFault}
 use Rattle.paje_lex.specs.LineReading.{scanned}
@@ -9,9 +10,8 @@ use Rattle.paje_defs.specs.declared.names.EventName.{EventName}
 use Rattle.paje_defs.specs.declared.names.Role.{Role}
 use Rattle.paje_defs.specs.declared.fields.Field.{Field}
 use Rattle.paje_defs.specs.declared.table.Definition.{Definition}
-use Rattle.paje_defs.specs.declared.table.DefFault.{DefFault}
 use Rattle.paje_defs.specs.declared.event.EventFault.{EventFault}
-use Rattle.paje_defs.specs.Table.{Defs, words_of, after_lines, no_defs}
+use Rattle.paje_defs.specs.Table.{Defs, Line, words_of, defs_of_lines}
 use Rattle.paje_defs.specs.Events.{Event, event_of, role_text, size_in, message_size}
 
 abbrev pub words_of_answer : List ℕ → Result (List Token) LexFault → List (List ℕ)
@@ -22,21 +22,12 @@ words_of_answer line (Err e) = []
 abbrev pub words_in : List ℕ → List (List ℕ)
 words_in line = words_of_answer line (scanned line)
 
--- the definitions of these lines, or the first refusal
-abbrev pub defs_in : List (List ℕ) → Result Defs DefFault
-defs_in lines = after_lines (Ok no_defs) 1 (map words_in lines)
+-- these lines, numbered from 1
+abbrev pub numbered : List (List ℕ) → List Line
+numbered lines = zip (range_with_len 1 (length lines)) (map words_in lines)
 
-abbrev pub complete_in : Result Defs DefFault → List (ℕ × Definition)
-complete_in (Ok d) = d.complete
-complete_in (Err f) = []
-
-abbrev pub refusal_in : Result Defs DefFault → Option DefFault
-refusal_in (Ok d) = None
-refusal_in (Err f) = Some f
-
--- why these lines are refused, where they are
-abbrev pub refusal_of : List (List ℕ) → Option DefFault
-refusal_of lines = refusal_in (defs_in lines)
+abbrev pub defs_in : List (List ℕ) → Defs
+defs_in lines = defs_of_lines (numbered lines)
 
 abbrev pub defined : ℕ → ℕ → EventName → List Field → ℕ × Definition
 defined number line event fields = (number, record { line = line; event = event; fields = fields })
@@ -50,9 +41,10 @@ seen_of roles words (Err f) = Err f
 seen_of roles words (Ok e) = Ok (e.time, message_size e.definition.event (size_in e.definition words), map (role_text e.definition words) roles)
 
 abbrev pub told_of : List (List ℕ) → List Role → List ℕ → Result (ℕ × ℕ × List (Option (List ℕ))) EventFault
-told_of lines roles line = seen_of roles (words_in line) (event_of (complete_in (defs_in lines)) (words_in line))
+told_of lines roles line = seen_of roles (words_in line) (event_of (defs_in lines).complete (words_in line))
 
--- two definitions of links in different orders, with an additional field, and one of destroyed containers
+-- two definitions of links in different orders, with an additional field; two of destroyed containers, one without
+-- their name; and one of state types, which has no time
 abbrev pub event_defs : List (List ℕ)
 event_defs =
     codes "%EventDef PajeStartLink 7" ∷ codes "% Time string" ∷ codes "% Kind hex" ∷
@@ -61,4 +53,7 @@ event_defs =
     codes "% Key string" ∷ codes "% Type string" ∷ codes "% Size string" ∷
     codes "% StartContainer string" ∷ codes "% Time date" ∷ codes "%EndEventDef" ∷
     codes "%EventDef PajeDestroyContainer 9" ∷ codes "% Container string" ∷ codes "% Time double" ∷
-    codes "% Name string" ∷ codes "%EndEventDef" ∷ []
+    codes "% Name string" ∷ codes "%EndEventDef" ∷ codes "%EventDef PajeDestroyContainer 10" ∷
+    codes "% Container string" ∷ codes "% Time date" ∷ codes "%EndEventDef" ∷
+    codes "%EventDef PajeDefineStateType 11" ∷ codes "% Name string" ∷ codes "% ContainerType string" ∷
+    codes "%EndEventDef" ∷ []

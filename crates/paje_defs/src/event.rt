@@ -1,9 +1,9 @@
-ghost use Rattle.std.specs.Prelude.{◌≡◌, ◌<◌, length, MatchResult, Some, Ok, Err};
+ghost use Rattle.std.specs.Prelude.{◌≡◌, ◌<◌, List, length, MatchResult, IfOk, Some, Ok, Err};
 ghost use Rattle.std.specs.Option.{option_copied};
 ghost use Rattle.paje_lex.specs.LineReading.{StandIn};
 ghost use Rattle.paje_defs.specs.declared.names.Role.{Role};
-ghost use Rattle.paje_defs.specs.Events.{AreFields, Tells, event_of, message_size, role_text, size_in, text_of, timed, time_of_text};
-ghost use Rattle.paje_defs.specs.Table.{defs_of, words_of};
+ghost use Rattle.paje_defs.specs.Events.{AreFields, Event, HasNeeded, RolesStand, Tells, event_of, message_size, role_text, size_in, text_of, timed, time_of_text};
+ghost use Rattle.paje_defs.specs.Table.{Line, defs_of, defs_of_lines, words_of};
 
 use crate::fields::place;
 use crate::names::{EventName, FieldType, Role};
@@ -205,12 +205,7 @@ fn read_fields<'a>(
 }
 
 impl DefTable {
-    /// The fields of an event line with the tokens that it has, under the definitions so far. It takes no memory.
-    ///
-    /// # Errors
-    ///
-    /// In this order: `NoNumber`, `UnknownNumber`, `TooFew`, `Date`.
-    pub fn event<'a>(&self, line: &'a [u8], tokens: &[Token]) -> Result<Fields<'a>, EventFault>
+    fn read_event<'a>(&self, line: &'a [u8], tokens: &[Token]) -> Result<Fields<'a>, EventFault>
         requires { StandIn (length line.now) tokens.now }
         ensures { Tells (words_of line.now tokens.now) result
             (event_of (defs_of self.now).complete (words_of line.now tokens.now)) }
@@ -228,5 +223,23 @@ impl DefTable {
             return Err(EventFault::TooFew);
         }
         read_fields(definition, line, tokens)
+    }
+
+    /// The fields of an event line with the tokens that it has, under the definitions so far. It takes no memory.
+    ///
+    /// # Errors
+    ///
+    /// In this order: `NoNumber`, `UnknownNumber`, `TooFew`, `Date`.
+    pub fn event<'a>(&self, line: &'a [u8], tokens: &[Token]) -> Result<Fields<'a>, EventFault>
+        requires { StandIn (length line.now) tokens.now }
+        ensures exact { Tells (words_of line.now tokens.now) result
+            (event_of (defs_of self.now).complete (words_of line.now tokens.now)) }
+        // A role has a text exactly where the definition of the line has a field of it.
+        ensures stand { (event : Event) → event_of (defs_of self.now).complete (words_of line.now tokens.now) ≡ Ok event
+            → IfOk result (RolesStand event.definition) }
+        // Under the definitions of lines, each role that the event needs has a text.
+        ensures needed { (lines : List Line) → defs_of self.now ≡ defs_of_lines lines → IfOk result HasNeeded }
+    {
+        self.read_event(line, tokens)
     }
 }

@@ -1,7 +1,7 @@
-ghost use Rattle.std.specs.Prelude.{◌≡◌, ◌+◌, length, codes, slice_get, is_some, None, Some, []};
+ghost use Rattle.std.specs.Prelude.{◌≡◌, ◌+◌, List, length, codes, slice_get, is_some, None, Some, []};
 ghost use Rattle.std.specs.Option.{option_copied};
 ghost use Rattle.paje_lex.specs.LineReading.{StandIn};
-ghost use Rattle.paje_defs.specs.Table.{Steps, Takes, begin_numbered, definition_of, defs_of, end_of, field_in, first_line, grown, line_after, words_of};
+ghost use Rattle.paje_defs.specs.Table.{Line, Steps, Takes, TakesNext, begin_numbered, definition_of, defs_of, defs_of_lines, end_of, field_in, first_line, grown, line_after, no_defs, words_of};
 ghost use Rattle.paje_defs.specs.Names.{type_of};
 ghost use Rattle.paje_defs.specs.Numbers.{event_number_of};
 
@@ -109,7 +109,7 @@ fn end_text() -> &'static [u8]
 impl DefTable {
     /// No definitions. It takes no memory.
     pub fn new(alloc: Global) -> DefTable
-        ensures { defs_of result ≡ record { complete = []; begun = None; fault = None } }
+        ensures { defs_of result ≡ no_defs }
     {
         DefTable {
             alloc,
@@ -137,7 +137,7 @@ impl DefTable {
     fn first_line(&self, number: u32) -> Option<u32>
         ensures { result ≡ first_line (defs_of self.now).complete number }
     {
-        self.complete.get(&number).map(|definition| definition.line)
+        self.definition(number).map(|definition| definition.line)
     }
 
     /// `%EventDef name number`
@@ -239,8 +239,11 @@ impl DefTable {
     /// field; `Shape`, `MissingField` with the first role that is missing for an end. `Memory`.
     pub fn line(&mut self, n: u32, line: &[u8], tokens: &[Token]) -> Result<(), DefFault>
         requires { StandIn (length line.now) tokens.now }
-        ensures { Takes (defs_of self.old) (defs_of self.new) result
+        ensures exact { Takes (defs_of self.old) (defs_of self.new) result
             (line_after (defs_of self.old) n (words_of line.now tokens.now)) (defs_of self.old).fault }
+        // The table is the definitions of all its lines so far.
+        ensures so_far { (before : List Line) → defs_of self.old ≡ defs_of_lines before
+            → TakesNext before (n, words_of line.now tokens.now) (defs_of self.new) result }
     {
         if let Some(fault) = self.fault {
             return Err(fault);

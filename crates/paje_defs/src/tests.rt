@@ -55,3 +55,60 @@ fn refusal_stays(rt: HostRuntime) -> Result<(), Fail> {
     assert_eq!(rt; refused, Some(DefFault::UnknownName));
     Ok(())
 }
+
+fn refusal(
+    alloc: Global,
+    table: &mut DefTable,
+    n: u32,
+    line: &[u8],
+) -> Result<Option<DefFault>, Fail>
+    requires { length line.now ≤ 65536 }
+{
+    let read = tokens(alloc, line)?;
+    Ok(table.line(n, line, read.as_slice()).err())
+}
+
+#[test]
+fn definitions_stay_after_a_refusal(rt: HostRuntime) -> Result<(), Fail> {
+    let alloc = rt.alloc();
+    let mut table = DefTable::new(alloc);
+    take(alloc, &mut table, 1, b"%EventDef PajeNewEvent 1")?;
+    take(alloc, &mut table, 2, b"% Time string")?;
+    take(alloc, &mut table, 3, b"%EndEventDef")?;
+    take(alloc, &mut table, 4, b"%EventDef PajeNewEvent 2")?;
+    let refused = refusal(alloc, &mut table, 5, b"% Time strange")?;
+    assert_eq!(rt; refused, Some(DefFault::UnknownType));
+    let refused = refusal(alloc, &mut table, 6, b"%EndEventDef")?;
+    assert_eq!(rt; refused, Some(DefFault::UnknownType));
+    assert!(rt; table.is_inside());
+    let line = b"1 0.5 more";
+    let read = tokens(alloc, line)?;
+    let fields = table.event(line, read.as_slice())?;
+    assert_eq!(rt; fields.kind(), EventName::NewEvent);
+    assert_eq!(rt; fields.time(), 500_000_000);
+    let line = b"2 0.5";
+    let read = tokens(alloc, line)?;
+    let refused = table.event(line, read.as_slice()).err();
+    assert_eq!(rt; refused, Some(EventFault::UnknownNumber));
+    Ok(())
+}
+
+#[test]
+fn size_of_a_message(rt: HostRuntime) -> Result<(), Fail> {
+    let alloc = rt.alloc();
+    let mut table = DefTable::new(alloc);
+    take(alloc, &mut table, 1, b"%EventDef PajeStartLink 7")?;
+    take(alloc, &mut table, 2, b"% Time date")?;
+    take(alloc, &mut table, 3, b"% Type string")?;
+    take(alloc, &mut table, 4, b"% SourceContainer string")?;
+    take(alloc, &mut table, 5, b"% Key string")?;
+    take(alloc, &mut table, 6, b"% Size int")?;
+    take(alloc, &mut table, 7, b"%EndEventDef")?;
+    let line = b"7 1 K p0 k1 100";
+    let read = tokens(alloc, line)?;
+    let fields = table.event(line, read.as_slice())?;
+    assert_eq!(rt; fields.size(), 100);
+    let from = fields.text(Role::From).ok_or("no container")?;
+    assert_eq!(rt; from, b"p0".as_slice());
+    Ok(())
+}

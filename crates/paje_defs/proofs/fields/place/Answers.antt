@@ -1,6 +1,5 @@
-use Rattle.std.proofs.Common.{◌≡◌, List, ℕ, Option, Some, sym, ◌∙◌, ap, position}
-use Rattle.paje_defs.specs.declared.names.FieldName.{FieldName}
-use Rattle.paje_defs.specs.Places.{is_named, first_name, second_name, place_of_name, place_or}
+use Rattle.std.proofs.Common.{◌∙◌, ap, position}
+use Rattle.paje_defs.specs.Places.{is_named, second_name, place_of_name, place_or}
 use Rattle.paje_defs.proofs.fields.place.Goals as goal
 
 pub returns-in-Some-second_name-clause-place : goal.returns-in-Some-second_name-clause-place

@@ -37,3 +37,27 @@ returns-clause-negative c = refl
 pub returns-clause-shape : goal.returns-clause-shape
 unfolding parts_of exponent_of
 returns-clause-shape c = refl
+
+pub returns-clause-unnamed : goal.returns-clause-unnamed
+unfolding parts_of exponent_of
+returns-clause-unnamed c = refl
+
+pub returns-clause-timeless : goal.returns-clause-timeless
+unfolding parts_of exponent_of
+returns-clause-timeless c = refl
+
+pub returns-clause-below : goal.returns-clause-below
+unfolding parts_of exponent_of
+returns-clause-below c = refl
+
+pub returns-clause-empty : goal.returns-clause-empty
+unfolding parts_of exponent_of
+returns-clause-empty c = refl
+
+pub returns-clause-too_few_first : goal.returns-clause-too_few_first
+unfolding parts_of exponent_of
+returns-clause-too_few_first c = refl
+
+pub returns-clause-big : goal.returns-clause-big
+unfolding parts_of exponent_of
+returns-clause-big c = refl

@@ -1,4 +1,4 @@
-use Rattle.std.proofs.Common.{◌≡◌, inr, refl, sym, ◌∙◌}
+use Rattle.std.proofs.Common.{inr, refl, sym, ◌∙◌}
 use Rattle.paje_defs.specs.Table.{defs_of}
 use Rattle.paje_defs.proofs.TableLemmas.{double_number}
 use Rattle.paje_defs.proofs.table.DefTable.begin.Goals as goal

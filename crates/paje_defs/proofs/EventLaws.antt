@@ -1,0 +1,129 @@
+-- Which texts an event line has under the definitions.
+use Rattle.std.proofs.Common.{◌≡◌, ℕ, ◌+◌, ◌<◌, List, [], ◌∷◌, length, slice_get, nat_lt, cond, position, nat_eq, unwrap_or, Bool, true, false, Option, Some, None, is_some, is_none, IfSome, Result, Ok, Err, refl, sym, ◌∙◌, ap, subst, arith}
+use Rattle.std.specs.List.{AllByRecursion, find, position_or_len}
+use Rattle.std.specs.Map.{lookup}
+use Rattle.std.specs.Option.{IsSome}
+use Rattle.std.specs.Result.{is_ok, result_unwrap_or, IfOk}
+use Rattle.std.proofs.lemmas.Bool.{true≢false, ltb-true}
+use Rattle.std.proofs.lemmas.Option.{slice_get-get_or}
+use Rattle.paje_lex.specs.declared.dates.DateFault.{DateFault}
+use Rattle.paje_defs.specs.declared.names.Role.{Role}
+use Rattle.paje_defs.specs.declared.names.Role.TheVariants as roles
+use Rattle.paje_defs.specs.declared.names.FieldName.{FieldName}
+use Rattle.paje_defs.specs.declared.names.EventName.{EventName}
+use Rattle.paje_defs.specs.declared.fields.Field.{Field}
+use Rattle.paje_defs.specs.declared.table.Definition.{Definition}
+use Rattle.paje_defs.specs.declared.event.EventFault.{EventFault}
+use Rattle.paje_defs.specs.declared.event.EventFault.TheVariants as faults
+use Rattle.paje_defs.specs.declared.event.Fields.{Fields}
+use Rattle.paje_defs.specs.Places.{is_named, first_name, second_name, needed, place_of, place_of_name, place_or}
+use Rattle.paje_defs.specs.Table.{IsWhole, definition_of}
+use Rattle.paje_defs.specs.Events.{Event, HasNeeded, RolesStand, Tells, event_numbered, event_of, event_under, number_in, role_text, text_at, text_of, time_of_text, timed}
+
+-- ---- where a field stands
+
+position_within : {X : Type 0} (p : X → Bool) (xs : List X) → IfSome (position p xs) (λ at. at < length xs)
+position_within p xs = by_test (position_or_len p xs) (length xs) (nat_lt (position_or_len p xs) (length xs)) refl
+  where
+    by_test : (at len : ℕ) (b : Bool) → nat_lt at len ≡ b → IfSome (cond b (Some at) None) (λ at. at < len)
+    by_test at len true e = ltb-true at len e
+    by_test at len false e = tt
+
+or_within : (len : ℕ) (first second : Option ℕ) → IfSome first (λ at. at < len) → IfSome second (λ at. at < len) → IfSome (place_or first second) (λ at. at < len)
+or_within len None second a b = b
+or_within len (Some place) second a b = a
+
+name_within : (fields : List Field) (name : Option FieldName) → IfSome (place_of_name fields name) (λ at. at < length fields)
+name_within fields None = tt
+name_within fields (Some name) = position_within (is_named name) fields
+
+pub place_within : (event : EventName) (fields : List Field) (role : Role) → IfSome (place_of event fields role) (λ at. at < length fields)
+place_within event fields role =
+    or_within (length fields) (place_of_name fields (Some (first_name role))) (place_of_name fields (second_name event role))
+    (name_within fields (Some (first_name role))) (name_within fields (second_name event role))
+
+-- ---- the definition of an event line
+
+-- the definition is one of the entries, and the line has a word for each of its fields
+record IsFound (entries : List (ℕ × Definition)) (words : List (List ℕ)) (d : Definition) : Type 0 where
+  number : ℕ
+  found : definition_of entries number ≡ Some d
+  enough : length d.fields < length words
+
+abbrev pub definition_or : Definition → Result Event EventFault → Definition
+definition_or d (Ok e) = e.definition
+definition_or d (Err f) = d
+
+timed_by : (d : Definition) (time : Result ℕ DateFault) (e : Event) → timed d time ≡ Ok e → d ≡ e.definition
+timed_by d (Ok time) e is = ap (definition_or d) is
+timed_by d (Err f) e is = absurd (true≢false (sym (ap is_ok is)))
+
+under_by : (entries : List (ℕ × Definition)) (words : List (List ℕ)) (number : ℕ) (d : Definition) (e : Event) (b : Bool) → definition_of entries number ≡ Some d
+    → nat_lt (length d.fields) (length words) ≡ b → cond b (timed d (time_of_text (role_text d words roles.Time))) (Err faults.TooFew) ≡ Ok e → IsFound entries words e.definition
+under_by entries words number d e true found test is =
+    subst (IsFound entries words) (timed_by d (time_of_text (role_text d words roles.Time)) e is)
+    (record { number = number; found = found; enough = ltb-true (length d.fields) (length words) test })
+under_by entries words number d e false found test is = absurd (true≢false (sym (ap is_ok is)))
+
+numbered_by : (entries : List (ℕ × Definition)) (words : List (List ℕ)) (number : ℕ) (o : Option Definition) (e : Event) → definition_of entries number ≡ o
+    → event_under words o ≡ Ok e → IsFound entries words e.definition
+numbered_by entries words number None e found is = absurd (true≢false (sym (ap is_ok is)))
+numbered_by entries words number (Some d) e found is = under_by entries words number d e (nat_lt (length d.fields) (length words)) found refl is
+
+found_by : (entries : List (ℕ × Definition)) (words : List (List ℕ)) (number : Option ℕ) (e : Event) → event_numbered entries words number ≡ Ok e → IsFound entries words e.definition
+found_by entries words None e is = absurd (true≢false (sym (ap is_ok is)))
+found_by entries words (Some number) e is = numbered_by entries words number (definition_of entries number) e refl is
+
+event_found : (entries : List (ℕ × Definition)) (words : List (List ℕ)) (e : Event) → event_of entries words ≡ Ok e → IsFound entries words e.definition
+event_found entries words e is = found_by entries words (number_in (slice_get words 0)) e is
+
+-- ---- the texts of its roles
+
+text_stands : (words : List (List ℕ)) (len : ℕ) (place : Option ℕ) → len < length words → IfSome place (λ at. at < len) → is_some (text_at words place) ≡ is_some place
+text_stands words len None enough within = refl
+text_stands words len (Some at) enough within = ap is_some (slice_get-get_or words (at + 1) [] (omega arith))
+
+ok_is : (a b : Event) (r : Result Event EventFault) → r ≡ Ok a → r ≡ Ok b → a ≡ b
+ok_is a b r one other = ap (λ r. result_unwrap_or r a) (sym one ∙ other)
+
+pub roles_stand : (entries : List (ℕ × Definition)) (words : List (List ℕ)) (r : Result Fields EventFault) → Tells words r (event_of entries words)
+    → (e : Event) → event_of entries words ≡ Ok e → IfOk r (RolesStand e.definition)
+roles_stand entries words (Err f) tells e is = tt
+roles_stand entries words (Ok f) (told, wanted, time, are) e is = λ role.
+    let same : told ≡ e = ok_is told e (event_of entries words) wanted is in
+    let found = event_found entries words e is in
+    ap is_some (are.texts role)
+    ∙ (ap (λ t. is_some (role_text t.definition words role)) same
+    ∙ text_stands words (length e.definition.fields) (place_of e.definition.event e.definition.fields role) found.enough
+    (place_within e.definition.event e.definition.fields role))
+
+-- ---- the roles that the event needs
+
+lookup_whole : (entries : List (ℕ × Definition)) (test : ℕ → Bool) (d : Definition) → AllByRecursion (λ entry. IsWhole entry.1) entries → lookup test entries ≡ Some d → IsWhole d
+lookup_whole [] test d whole is = absurd (true≢false (sym (ap is_some is)))
+lookup_whole (entry ∷ entries) test d whole is = by_test (test entry.0) is (lookup_whole entries test d whole.1)
+  where
+    by_test : (b : Bool) → cond b (Some entry.1) (lookup test entries) ≡ Some d → (lookup test entries ≡ Some d → IsWhole d) → IsWhole d
+    by_test true e later = subst IsWhole (ap (λ o. unwrap_or o d) e) whole.0
+    by_test false e later = later e
+
+none_missing : (event : EventName) (fields : List Field) (f : Fields) (asked : List Role) → ((role : Role) → is_some (text_of f.texts role) ≡ is_some (place_of event fields role))
+    → find (λ role. is_none (place_of event fields role)) asked ≡ None → AllByRecursion (λ role. IsSome (text_of f.texts role)) asked
+none_missing event fields f [] stand none = tt
+none_missing event fields f (role ∷ asked) stand none = by_place (place_of event fields role) (stand role) none (none_missing event fields f asked stand)
+  where
+    by_place : (place : Option ℕ) → is_some (text_of f.texts role) ≡ is_some place → cond (is_none place) (Some role) (find (λ role. is_none (place_of event fields role)) asked) ≡ None
+        → (find (λ role. is_none (place_of event fields role)) asked ≡ None → AllByRecursion (λ role. IsSome (text_of f.texts role)) asked)
+        → AllByRecursion (λ role. IsSome (text_of f.texts role)) (role ∷ asked)
+    by_place None stands e later = absurd (true≢false (ap is_some e))
+    by_place (Some at) stands e later = (stands, later e)
+
+pub needed_stand : (entries : List (ℕ × Definition)) (words : List (List ℕ)) (r : Result Fields EventFault) → AllByRecursion (λ entry. IsWhole entry.1) entries
+    → Tells words r (event_of entries words) → IfOk r HasNeeded
+needed_stand entries words (Err f) whole tells = tt
+needed_stand entries words (Ok f) whole (e, wanted, time, are) =
+    let found = event_found entries words e wanted in
+    let d = e.definition in
+    subst (λ kind. AllByRecursion (λ role. IsSome (text_of f.texts role)) (needed kind)) (sym are.kind)
+    (none_missing d.event d.fields f (needed d.event) (roles_stand entries words (Ok f) (e, wanted, time, are) e wanted)
+    (lookup_whole entries (λ k. nat_eq found.number k) d whole found.found))
