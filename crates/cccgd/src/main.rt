@@ -2,6 +2,8 @@
 #![tactic(auto)]
 
 mod standard;
+#[cfg(test)]
+mod tests;
 
 use standard::{StandardInput, StandardOutput};
 use std::process::ExitCode;

@@ -3,7 +3,8 @@ ghost use Rattle.std.specs.Prelude.{◌≡◌, None};
 use std::io::{Read, Write};
 use trace_base::{Faults, ReadAnswer, Sink, Source, WriteAnswer};
 
-/// A reader of the system as a source. What it has left isn't told.
+/// A reader of the system as a source. What it has left isn't told. An interrupted read counts as a fault, like any
+/// other error.
 #[derive(Drop)]
 pub struct StandardInput<R: Read> {
     reader: R,
@@ -12,7 +13,9 @@ pub struct StandardInput<R: Read> {
 
 impl<R: Read> StandardInput<R> {
     /// A source over this reader, without faults.
-    pub fn new(reader: R) -> StandardInput<R> {
+    pub fn new(reader: R) -> StandardInput<R>
+        ensures { result.faults ≡ 0 }
+    {
         StandardInput { reader, faults: 0 }
     }
 }
@@ -42,7 +45,7 @@ impl<R: Read> Source for StandardInput<R> {
     }
 }
 
-/// A writer of the system as a sink. What it holds isn't told. A write that takes nothing is a fault.
+/// A writer of the system as a sink. What it holds isn't told. A write that takes nothing, or is interrupted, is a fault.
 #[derive(Drop)]
 pub struct StandardOutput<W: Write> {
     writer: W,
@@ -51,7 +54,9 @@ pub struct StandardOutput<W: Write> {
 
 impl<W: Write> StandardOutput<W> {
     /// A sink over this writer, without faults.
-    pub fn new(writer: W) -> StandardOutput<W> {
+    pub fn new(writer: W) -> StandardOutput<W>
+        ensures { result.faults ≡ 0 }
+    {
         StandardOutput { writer, faults: 0 }
     }
 }
