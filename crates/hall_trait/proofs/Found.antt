@@ -7,8 +7,7 @@ use Rattle.std.proofs.lemmas.List.{take-append-drop, take-append-le, take_all}
 use Rattle.trace_base.specs.Info.{IsLegalInfo}
 use Rattle.trace_base.specs.declared.names.TraceInfo.{TraceInfo}
 use Rattle.trace_base.specs.declared.stream.TrackStream.{TrackStream}
-use Rattle.hall_trait.specs.Answers.{FitsTrack}
-use Rattle.hall_trait.specs.History.{Entry, Opened, Published, Sealed, Dropped, Closed, Asked, opened_id, info_opened, stream_published, ends, opened_ids, info_of, stream_of, is_open, MayFollow, IsLegalHistory}
+use Rattle.hall_trait.specs.History.{Entry, Opened, Published, Sealed, Dropped, Closed, Asked, opened_id, info_opened, stream_published, ends, opened_ids, info_of, stream_of, is_open, FitsTrack, MayFollow, IsLegalHistory}
 use Rattle.hall_trait.specs.Pin.{first_id, second_id, id_at}
 use Rattle.hall_trait.specs.PlainSeat.{IsHeld, kept_view}
 use Rattle.hall_trait.specs.Seat.{PinView}

@@ -9,8 +9,8 @@ use Rattle.std.proofs.lemmas.Bool.{eq-eqb}
 use Rattle.trace_base.specs.Info.{IsLegalInfo}
 use Rattle.trace_base.specs.declared.names.TraceInfo.{TraceInfo}
 use Rattle.trace_base.specs.declared.stream.TrackStream.{TrackStream}
-use Rattle.hall_trait.specs.Answers.{HasRoom, FitsTrack}
-use Rattle.hall_trait.specs.History.{Entry, Opened, Published, Sealed, Dropped, Asked, opened_id, opened_ids, open_ids, info_of, stream_of, is_loading, tracks_of, published_count, promised, MayFollow}
+use Rattle.hall_trait.specs.Answers.{HasRoom}
+use Rattle.hall_trait.specs.History.{Entry, Opened, Published, Sealed, Dropped, Asked, opened_id, opened_ids, open_ids, info_of, stream_of, is_loading, tracks_of, published_count, promised, FitsTrack, MayFollow}
 use Rattle.hall_trait.specs.Kept.{IsKept}
 use Rattle.hall_trait.specs.PlainSeat.{plain_seat}
 use Rattle.hall_trait.specs.Seat.{PinView, MakesEntry}

@@ -1,7 +1,6 @@
 -- What each call of a hall answers, and what it does to the seat. `alone` says that no other seat acts in this hall.
 use Rattle.std.specs.Prelude.{◌≡◌, ℕ, ◌+◌, ◌^◌, ◌≤◌, ◌<◌, ◌⊎◌, Bool, false, List, [], ◌∷◌, ◌++◌, length, Option, Some, Result, Ok, Err, IsTrue}
 use Rattle.std.specs.Bool.{OnTrue}
-use Rattle.trace_base.specs.Info.{Fits}
 use Rattle.trace_base.specs.Outside.{Told}
 use Rattle.trace_base.specs.declared.asks.AskIds.{AskIds}
 use Rattle.trace_base.specs.declared.asks.AskIds.TheVariants.{One, Two}
@@ -57,10 +56,6 @@ AdmitRecords old new (Ok pass) = RecordsNone old new
 AdmitRecords old new (Err (fault.Spent p)) = RecordsSpent old new p
 AdmitRecords old new (Err (fault.Full place)) = RecordsNone old new
 AdmitRecords old new (Err fault.Memory) = RecordsNone old new
-
--- the stream may be published as this track of the pass's trace
-abbrev pub FitsTrack : List Entry → ℕ → ℕ → TrackStream → Type 0
-FitsTrack entries id track s = (info : TraceInfo) × (info_of entries id ≡ Some info) × (track < length info.names.tracks) × Fits s info track
 
 -- What keep answers. Ok: the track is published, and the pass has gone on. Want of memory changes nothing, and there
 -- is no other fault.

@@ -111,14 +111,17 @@ published_count entries id = length (filter (publishes id) entries)
 unfoldable pub promised : List Entry → ℕ
 promised entries = sum_by (λ id. tracks_of entries id - published_count entries id + 1) (filter (is_loading entries) (opened_ids entries))
 
+-- the stream may be published as this track of the trace
+abbrev pub FitsTrack : List Entry → ℕ → ℕ → TrackStream → Type 0
+FitsTrack entries id track s = (info : TraceInfo) × (info_of entries id ≡ Some info) × (track < length info.names.tracks) × Fits s info track
+
 -- Whether an entry may come after these. Ids are given in order, and at most 1,024 traces are open. A track is
 -- published once, while its trace is loading, with a stream that fits it. A trace is sealed when all its tracks are
 -- published. A loading trace may be dropped, and a sealed one closed.
 abbrev pub MayFollow : List Entry → Entry → Type 0
 MayFollow entries (Opened id info) = (id ≡ next_id entries) × IsLegalInfo info × (length (open_ids entries) < 1024)
 MayFollow entries (Published id track stream) =
-    IsTrue (is_loading entries id) × (stream_of entries id track ≡ None)
-    × ((info : TraceInfo) × (info_of entries id ≡ Some info) × (track < length info.names.tracks) × Fits stream info track)
+    IsTrue (is_loading entries id) × (stream_of entries id track ≡ None) × FitsTrack entries id track stream
 MayFollow entries (Sealed id) = IsTrue (is_loading entries id) × ((track : ℕ) → track < tracks_of entries id → IsSome (stream_of entries id track))
 MayFollow entries (Dropped id) = IsTrue (is_loading entries id)
 MayFollow entries (Closed id) = IsTrue (is_open entries id) × (is_loading entries id ≡ false)

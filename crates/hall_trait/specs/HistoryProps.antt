@@ -13,7 +13,7 @@ use Rattle.trace_base.specs.contracts.names.Container as container
 use Rattle.trace_base.specs.contracts.names.Track as track
 use Rattle.trace_base.specs.contracts.names.TraceInfo as info
 use Rattle.trace_base.specs.contracts.stream.TrackStream as stream
-use Rattle.hall_trait.specs.History.{Entry, Opened, Published, Sealed, Dropped, Closed, Asked, MayFollow, IsLegalHistory, info_of}
+use Rattle.hall_trait.specs.History.{Entry, Opened, Published, Sealed, Dropped, Closed, Asked, FitsTrack, MayFollow, IsLegalHistory, info_of}
 
 Container-set : IsSet Container
 Container-set = Coded-set container.the_row.coded
@@ -53,12 +53,12 @@ Fits-prop : (s : TrackStream) (info : TraceInfo) (track : ℕ) → IsProp (Fits 
 unfolding Interval
 Fits-prop s info track = hlevel (props, IsLegal-prop, Interval-prop s info track)
 
-Told : List Entry → ℕ → ℕ → TrackStream → Type 0
-Told entries id track s = (info : TraceInfo) × (info_of entries id ≡ Some info) × (track < length info.names.tracks) × Fits s info track
+MayBeTrack : List Entry → ℕ → ℕ → TrackStream → Type 0
+MayBeTrack entries id track s = FitsTrack entries id track s
 
-Told-prop : (entries : List Entry) (id track : ℕ) (s : TrackStream) → IsProp (Told entries id track s)
-unfolding Told
-Told-prop entries id track s u v =
+MayBeTrack-prop : (entries : List Entry) (id track : ℕ) (s : TrackStream) → IsProp (MayBeTrack entries id track s)
+unfolding MayBeTrack
+MayBeTrack-prop entries id track s u v =
     let same_info : u.0 ≡ v.0 = cc in
     λ i. (
       same_info i,
@@ -68,9 +68,9 @@ Told-prop entries id track s u v =
     )
 
 MayFollow-prop : (entries : List Entry) (e : Entry) → IsProp (MayFollow entries e)
-unfolding Told
+unfolding MayBeTrack
 MayFollow-prop entries (Opened id info) = hlevel (props, IsLegalInfo-prop)
-MayFollow-prop entries (Published id track s) = hlevel (props, TrackStream-set, Told-prop entries id track s)
+MayFollow-prop entries (Published id track s) = hlevel (props, TrackStream-set, MayBeTrack-prop entries id track s)
 MayFollow-prop entries (Sealed id) = hlevel props
 MayFollow-prop entries (Dropped id) = hlevel props
 MayFollow-prop entries (Closed id) = hlevel props

@@ -4,10 +4,15 @@ use trace_base::PassState;
 /// `seal` or `abandon`, and can't be dropped.
 #[derive(Debug)]
 pub struct LoadPass {
+    /// The id of the trace.
     pub id: u64,
+    /// The place of the entry that opened the trace, counted from 1.
     pub place: u64,
+    /// Its first track, counted from 0.
     pub from: u32,
+    /// The track behind its last.
     pub to: u32,
+    /// How far it has come.
     pub state: PassState,
 }
 

@@ -4,9 +4,13 @@ use trace_base::{AskIds, Brief};
 /// can't be dropped. In a pin on one trace `second` equals `first`.
 #[derive(Debug)]
 pub struct Pin {
+    /// The ids of the traces.
     pub ids: AskIds,
+    /// The place at which they were asked for, counted from 1.
     pub place: u64,
+    /// The brief of the first trace.
     pub first: Brief,
+    /// The brief of the second.
     pub second: Brief,
 }
 

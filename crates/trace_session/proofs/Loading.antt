@@ -5,8 +5,8 @@ use Rattle.std.proofs.Math.Seq.{take-append_seam}
 use Rattle.trace_base.specs.declared.asks.PassState.TheVariants.{Straight}
 use Rattle.trace_base.specs.declared.names.TraceInfo.{TraceInfo}
 use Rattle.trace_base.specs.declared.stream.TrackStream.{TrackStream}
-use Rattle.hall_trait.specs.Answers.{FitsTrack, Keeps, CoversAll, EndsLoad}
-use Rattle.hall_trait.specs.History.{Entry, Published, Sealed, Dropped, info_of, info_opened}
+use Rattle.hall_trait.specs.Answers.{Keeps, CoversAll, EndsLoad}
+use Rattle.hall_trait.specs.History.{Entry, Published, Sealed, Dropped, FitsTrack, info_of, info_opened}
 use Rattle.hall_trait.specs.Pass.{pass_view, state_at, IsNext, IsFresh}
 use Rattle.hall_trait.specs.Seat.{Seat, PassView, Begins, IsAtRest, Replaces, Removes}
 use Rattle.hall_trait.specs.declared.pass.LoadPass.{LoadPass}

@@ -1,10 +1,9 @@
 use Rattle.std.proofs.Common.{◌≡◌, ◌+◌, ◌-◌, arith, ap, ◌∙◌, ℕ, subst, [], ◌∷◌, ◌++◌}
 use Rattle.trace_base.specs.declared.asks.PassState.{PassState}
 use Rattle.trace_base.specs.declared.asks.PassState.TheVariants.{Straight}
-use Rattle.hall_trait.specs.Answers.{FitsTrack}
 use Rattle.hall_trait.specs.KeptHistory.{history}
 use Rattle.hall_trait.specs.Pass.{state_at, advanced}
-use Rattle.hall_trait.specs.History.{Published}
+use Rattle.hall_trait.specs.History.{FitsTrack, Published}
 use Rattle.hall_trait.specs.declared.pass.LoadPass.{LoadPass}
 use Rattle.hall_trait.proofs.Calls.{pass_facts, next_is_count, published_answer}
 use Rattle.hall_trait.proofs.Found.{held_more, info_legal}
