@@ -11,7 +11,7 @@ use Rattle.paje_defs.specs.declared.names.Role.{Role}
 use Rattle.paje_defs.specs.declared.fields.Field.{Field}
 use Rattle.paje_defs.specs.declared.table.Definition.{Definition}
 use Rattle.paje_defs.specs.declared.event.EventFault.{EventFault}
-use Rattle.paje_defs.specs.Table.{Defs, Line, words_of, defs_of_lines}
+use Rattle.paje_defs.specs.Table.{Definitions, Line, words_of, definitions_of_lines}
 use Rattle.paje_defs.specs.Events.{Event, event_of, role_text, size_in, message_size}
 
 abbrev pub words_of_answer : List ℕ → Result (List Token) LexFault → List (List ℕ)
@@ -26,8 +26,8 @@ words_in line = words_of_answer line (scanned line)
 abbrev pub numbered : List (List ℕ) → List Line
 numbered lines = zip (range_with_len 1 (length lines)) (map words_in lines)
 
-abbrev pub defs_in : List (List ℕ) → Defs
-defs_in lines = defs_of_lines (numbered lines)
+abbrev pub definitions_in : List (List ℕ) → Definitions
+definitions_in lines = definitions_of_lines (numbered lines)
 
 abbrev pub defined : ℕ → ℕ → EventName → List Field → ℕ × Definition
 defined number line event fields = (number, record { line = line; event = event; fields = fields })
@@ -41,12 +41,12 @@ seen_of roles words (Err f) = Err f
 seen_of roles words (Ok e) = Ok (e.time, message_size e.definition.event (size_in e.definition words), map (role_text e.definition words) roles)
 
 abbrev pub told_of : List (List ℕ) → List Role → List ℕ → Result (ℕ × ℕ × List (Option (List ℕ))) EventFault
-told_of lines roles line = seen_of roles (words_in line) (event_of (defs_in lines).complete (words_in line))
+told_of lines roles line = seen_of roles (words_in line) (event_of (definitions_in lines).complete (words_in line))
 
 -- two definitions of links in different orders, with an additional field; two of destroyed containers, one without
 -- their name; and one of state types, which has no time
-abbrev pub event_defs : List (List ℕ)
-event_defs =
+abbrev pub event_definitions : List (List ℕ)
+event_definitions =
     codes "%EventDef PajeStartLink 7" ∷ codes "% Time string" ∷ codes "% Kind hex" ∷
     codes "% Type string" ∷ codes "% SourceContainer string" ∷ codes "% StartContainer string" ∷
     codes "% Key string" ∷ codes "% Size int" ∷ codes "%EndEventDef" ∷ codes "%EventDef PajeStartLink 8" ∷

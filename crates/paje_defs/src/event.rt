@@ -3,7 +3,7 @@ ghost use Rattle.std.specs.Option.{option_copied};
 ghost use Rattle.paje_lex.specs.LineReading.{StandIn};
 ghost use Rattle.paje_defs.specs.declared.names.Role.{Role};
 ghost use Rattle.paje_defs.specs.Events.{AreFields, Event, HasNeeded, RolesStand, Tells, event_of, message_size, role_text, size_in, text_of, timed, time_of_text};
-ghost use Rattle.paje_defs.specs.Table.{Line, defs_of, defs_of_lines, words_of};
+ghost use Rattle.paje_defs.specs.Table.{Line, definitions_of, definitions_of_lines, words_of};
 
 use crate::fields::place;
 use crate::names::{EventName, FieldType, Role};
@@ -208,7 +208,7 @@ impl DefTable {
     fn read_event<'a>(&self, line: &'a [u8], tokens: &[Token]) -> Result<Fields<'a>, EventFault>
         requires { StandIn (length line.now) tokens.now }
         ensures { Tells (words_of line.now tokens.now) result
-            (event_of (defs_of self.now).complete (words_of line.now tokens.now)) }
+            (event_of (definitions_of self.now).complete (words_of line.now tokens.now)) }
     {
         let Some(first) = word(line, tokens, 0) else {
             return Err(EventFault::NoNumber);
@@ -233,12 +233,12 @@ impl DefTable {
     pub fn event<'a>(&self, line: &'a [u8], tokens: &[Token]) -> Result<Fields<'a>, EventFault>
         requires { StandIn (length line.now) tokens.now }
         ensures exact { Tells (words_of line.now tokens.now) result
-            (event_of (defs_of self.now).complete (words_of line.now tokens.now)) }
+            (event_of (definitions_of self.now).complete (words_of line.now tokens.now)) }
         // A role has a text exactly where the definition of the line has a field of it.
-        ensures stand { (event : Event) → event_of (defs_of self.now).complete (words_of line.now tokens.now) ≡ Ok event
+        ensures stand { (event : Event) → event_of (definitions_of self.now).complete (words_of line.now tokens.now) ≡ Ok event
             → IfOk result (RolesStand event.definition) }
         // Under the definitions of lines, each role that the event needs has a text.
-        ensures needed { (lines : List Line) → defs_of self.now ≡ defs_of_lines lines → IfOk result HasNeeded }
+        ensures needed { (lines : List Line) → definitions_of self.now ≡ definitions_of_lines lines → IfOk result HasNeeded }
     {
         self.read_event(line, tokens)
     }

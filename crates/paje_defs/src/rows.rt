@@ -4,7 +4,7 @@ ghost use Rattle.std.specs.Prelude.{◌≡◌, [], ◌∷◌, ◌++◌, map, cod
 ghost use Rattle.paje_defs.specs.Names.{all_events};
 ghost use Rattle.paje_defs.specs.Places.{missing, place_of};
 ghost use Rattle.paje_defs.specs.Numbers.{size_of, event_number_of};
-ghost use Rattle.paje_defs.specs.Texts.{defined, defs_in, field_as, event_defs, told_of};
+ghost use Rattle.paje_defs.specs.Texts.{defined, definitions_in, field_as, event_definitions, told_of};
 
 use crate::event::EventFault;
 use crate::names::{EventName, FieldName, FieldType, Role};
@@ -13,7 +13,7 @@ use paje_lex::DateFault;
 
 /// Six definitions, one after another: none is left open and no line is refused.
 pub fn definition_rows()
-    ensures { defs_in (
+    ensures { definitions_in (
         codes "%EventDef PajeDefineContainerType 0" ∷ codes "% Alias string" ∷ codes "% Type string" ∷
         codes "% Name string" ∷ codes "%EndEventDef" ∷ codes "%EventDef PajeDefineStateType 1" ∷
         codes "% Alias string" ∷ codes "% Type string" ∷ codes "% Name string" ∷ codes "%EndEventDef" ∷
@@ -90,7 +90,7 @@ pub fn place_rows()
 
 /// Lines that are refused, and some that aren't.
 pub fn refusal_rows()
-    ensures { map (λ lines. (defs_in lines).fault) ((codes "%" ∷ [])
+    ensures { map (λ lines. (definitions_in lines).fault) ((codes "%" ∷ [])
         ∷ (codes "% Time" ∷ [])
         ∷ (codes "% Time date" ∷ [])
         ∷ (codes "%EventDef PajePopState" ∷ [])
@@ -113,23 +113,23 @@ pub fn refusal_rows()
 
 /// Which refusal comes first, and which line a doubled number tells.
 pub fn order_rows()
-    ensures second_line { (defs_in (codes "%EventDef PajeNewEvent 1" ∷ codes "% Time date" ∷ codes "%EndEventDef" ∷ codes "%EventDef PajeNewEvent 2" ∷ codes "% Time date" ∷ codes "%EndEventDef" ∷ codes "%EventDef PajePopState 2" ∷ [])).fault ≡ Some (DefFault.DoubleNumber 4) }
-    ensures shape_before_nested { (defs_in (codes "%EventDef PajePopState 1" ∷ codes "%EventDef PajePopState x" ∷ [])).fault ≡ Some DefFault.Shape }
-    ensures shape_before_name { (defs_in (codes "%EventDef PajeStrange x" ∷ [])).fault ≡ Some DefFault.Shape }
-    ensures nested_before_number { (defs_in (codes "%EventDef PajeNewEvent 1" ∷ codes "% Time date" ∷ codes "%EndEventDef" ∷ codes "%EventDef PajeNewEvent 2" ∷ codes "%EventDef PajeNewEvent 1" ∷ [])).fault ≡ Some DefFault.Nested }
-    ensures name_before_number { (defs_in (codes "%EventDef PajeNewEvent 1" ∷ codes "% Time date" ∷ codes "%EndEventDef" ∷ codes "%EventDef PajeStrange 1" ∷ [])).fault ≡ Some DefFault.UnknownName }
-    ensures outside_before_type { (defs_in (codes "% Time time" ∷ [])).fault ≡ Some DefFault.Shape }
-    ensures first_missing { (defs_in (codes "%EventDef PajePushState 1" ∷ codes "% Value string" ∷ codes "%EndEventDef" ∷ [])).fault ≡ Some (DefFault.MissingField Role.Time) }
+    ensures second_line { (definitions_in (codes "%EventDef PajeNewEvent 1" ∷ codes "% Time date" ∷ codes "%EndEventDef" ∷ codes "%EventDef PajeNewEvent 2" ∷ codes "% Time date" ∷ codes "%EndEventDef" ∷ codes "%EventDef PajePopState 2" ∷ [])).fault ≡ Some (DefFault.DoubleNumber 4) }
+    ensures shape_before_nested { (definitions_in (codes "%EventDef PajePopState 1" ∷ codes "%EventDef PajePopState x" ∷ [])).fault ≡ Some DefFault.Shape }
+    ensures shape_before_name { (definitions_in (codes "%EventDef PajeStrange x" ∷ [])).fault ≡ Some DefFault.Shape }
+    ensures nested_before_number { (definitions_in (codes "%EventDef PajeNewEvent 1" ∷ codes "% Time date" ∷ codes "%EndEventDef" ∷ codes "%EventDef PajeNewEvent 2" ∷ codes "%EventDef PajeNewEvent 1" ∷ [])).fault ≡ Some DefFault.Nested }
+    ensures name_before_number { (definitions_in (codes "%EventDef PajeNewEvent 1" ∷ codes "% Time date" ∷ codes "%EndEventDef" ∷ codes "%EventDef PajeStrange 1" ∷ [])).fault ≡ Some DefFault.UnknownName }
+    ensures outside_before_type { (definitions_in (codes "% Time time" ∷ [])).fault ≡ Some DefFault.Shape }
+    ensures first_missing { (definitions_in (codes "%EventDef PajePushState 1" ∷ codes "% Value string" ∷ codes "%EndEventDef" ∷ [])).fault ≡ Some (DefFault.MissingField Role.Time) }
 {}
 
 /// A definition that is begun and not ended, and tokens that are dropped.
 pub fn begun_rows()
-    ensures begun { defs_in (codes "%EventDef PajePopState 5" ∷ codes "% Time date" ∷ codes "% Weight color" ∷ []) ≡ record {
+    ensures begun { definitions_in (codes "%EventDef PajePopState 5" ∷ codes "% Time date" ∷ codes "% Weight color" ∷ []) ≡ record {
       complete = [];
       begun = Some (record { number = 5; definition = record { line = 1; event = EventName.PopState; fields = field_as FieldName.Time FieldType.Date ∷ field_as FieldName.Other FieldType.Color ∷ [] } });
       fault = None;
     } }
-    ensures ended { defs_in (codes "%EventDef PajeNewEvent 5 more" ∷ codes "% Time date more" ∷ codes "%EndEventDef more" ∷ []) ≡ record {
+    ensures ended { definitions_in (codes "%EventDef PajeNewEvent 5 more" ∷ codes "% Time date more" ∷ codes "%EndEventDef more" ∷ []) ≡ record {
       complete = defined 5 1 EventName.NewEvent (field_as FieldName.Time FieldType.Date ∷ []) ∷ [];
       begun = None;
       fault = None;
@@ -139,21 +139,21 @@ pub fn begun_rows()
 
 /// Event lines under a few definitions.
 pub fn event_rows()
-    ensures link { told_of event_defs (Role.Time ∷ Role.Kind ∷ Role.From ∷ Role.Key ∷ Role.Value ∷ []) (codes "7 1 ff K a b k +50") ≡ Ok (1000000000, 50, Some (codes "1") ∷ Some (codes "K") ∷ Some (codes "b") ∷ Some (codes "k") ∷ None ∷ []) }
-    ensures other_order { told_of event_defs (Role.Size ∷ Role.Key ∷ []) (codes "8 k K 50 a .5") ≡ Ok (500000000, 0, Some (codes "50") ∷ Some (codes "k") ∷ []) }
-    ensures destroyed { told_of event_defs (Role.Name ∷ Role.Holder ∷ []) (codes "9 c 2 n more") ≡ Ok (2000000000, 0, Some (codes "n") ∷ Some (codes "c") ∷ []) }
-    ensures unnamed { told_of event_defs (Role.Name ∷ Role.Holder ∷ []) (codes "10 c 2") ≡ Ok (2000000000, 0, Some (codes "c") ∷ Some (codes "c") ∷ []) }
-    ensures timeless { told_of event_defs (Role.Kind ∷ Role.Name ∷ Role.Time ∷ Role.Alias ∷ []) (codes "11 n T") ≡ Ok (0, 0, Some (codes "T") ∷ Some (codes "n") ∷ None ∷ None ∷ []) }
-    ensures below { told_of event_defs [] (codes "7 1 ff K a b k -50") ≡ Ok (1000000000, 0, []) }
-    ensures empty { told_of event_defs [] [] ≡ Err EventFault.NoNumber }
-    ensures no_number { told_of event_defs [] (codes "x") ≡ Err EventFault.NoNumber }
-    ensures long_number { told_of event_defs [] (codes "12345678901 1") ≡ Err EventFault.NoNumber }
-    ensures unknown { told_of event_defs [] (codes "6 1") ≡ Err EventFault.UnknownNumber }
-    ensures too_few { told_of event_defs [] (codes "9 c 2") ≡ Err EventFault.TooFew }
-    ensures too_few_first { told_of event_defs [] (codes "7 x") ≡ Err EventFault.TooFew }
-    ensures big { told_of event_defs [] (codes "9 c 5e9 n") ≡ Err (EventFault.Date DateFault.Big) }
-    ensures negative { told_of event_defs [] (codes "9 c -2 n") ≡ Err (EventFault.Date DateFault.Negative) }
-    ensures shape { told_of event_defs [] (codes "7 x ff K a b k 1") ≡ Err (EventFault.Date DateFault.Shape) }
+    ensures link { told_of event_definitions (Role.Time ∷ Role.Kind ∷ Role.From ∷ Role.Key ∷ Role.Value ∷ []) (codes "7 1 ff K a b k +50") ≡ Ok (1000000000, 50, Some (codes "1") ∷ Some (codes "K") ∷ Some (codes "b") ∷ Some (codes "k") ∷ None ∷ []) }
+    ensures other_order { told_of event_definitions (Role.Size ∷ Role.Key ∷ []) (codes "8 k K 50 a .5") ≡ Ok (500000000, 0, Some (codes "50") ∷ Some (codes "k") ∷ []) }
+    ensures destroyed { told_of event_definitions (Role.Name ∷ Role.Holder ∷ []) (codes "9 c 2 n more") ≡ Ok (2000000000, 0, Some (codes "n") ∷ Some (codes "c") ∷ []) }
+    ensures unnamed { told_of event_definitions (Role.Name ∷ Role.Holder ∷ []) (codes "10 c 2") ≡ Ok (2000000000, 0, Some (codes "c") ∷ Some (codes "c") ∷ []) }
+    ensures timeless { told_of event_definitions (Role.Kind ∷ Role.Name ∷ Role.Time ∷ Role.Alias ∷ []) (codes "11 n T") ≡ Ok (0, 0, Some (codes "T") ∷ Some (codes "n") ∷ None ∷ None ∷ []) }
+    ensures below { told_of event_definitions [] (codes "7 1 ff K a b k -50") ≡ Ok (1000000000, 0, []) }
+    ensures empty { told_of event_definitions [] [] ≡ Err EventFault.NoNumber }
+    ensures no_number { told_of event_definitions [] (codes "x") ≡ Err EventFault.NoNumber }
+    ensures long_number { told_of event_definitions [] (codes "12345678901 1") ≡ Err EventFault.NoNumber }
+    ensures unknown { told_of event_definitions [] (codes "6 1") ≡ Err EventFault.UnknownNumber }
+    ensures too_few { told_of event_definitions [] (codes "9 c 2") ≡ Err EventFault.TooFew }
+    ensures too_few_first { told_of event_definitions [] (codes "7 x") ≡ Err EventFault.TooFew }
+    ensures big { told_of event_definitions [] (codes "9 c 5e9 n") ≡ Err (EventFault.Date DateFault.Big) }
+    ensures negative { told_of event_definitions [] (codes "9 c -2 n") ≡ Err (EventFault.Date DateFault.Negative) }
+    ensures shape { told_of event_definitions [] (codes "7 x ff K a b k 1") ≡ Err (EventFault.Date DateFault.Shape) }
 {}
 
 /// Sizes and numbers.

@@ -1,7 +1,7 @@
 ghost use Rattle.std.specs.Prelude.{◌≡◌, ◌+◌, List, length, codes, slice_get, is_some, None, Some, []};
 ghost use Rattle.std.specs.Option.{option_copied};
 ghost use Rattle.paje_lex.specs.LineReading.{StandIn};
-ghost use Rattle.paje_defs.specs.Table.{Line, Steps, Takes, TakesNext, begin_numbered, definition_of, defs_of, defs_of_lines, end_of, field_in, first_line, grown, line_after, no_defs, words_of};
+ghost use Rattle.paje_defs.specs.Table.{Line, Steps, Takes, TakesNext, begin_numbered, definition_of, definitions_of, definitions_of_lines, end_of, field_in, first_line, grown, line_after, no_definitions, words_of};
 ghost use Rattle.paje_defs.specs.Names.{type_of};
 ghost use Rattle.paje_defs.specs.Numbers.{event_number_of};
 
@@ -109,7 +109,7 @@ fn end_text() -> &'static [u8]
 impl DefTable {
     /// No definitions. It takes no memory.
     pub fn new(alloc: Global) -> DefTable
-        ensures { defs_of result ≡ no_defs }
+        ensures { definitions_of result ≡ no_definitions }
     {
         DefTable {
             alloc,
@@ -121,29 +121,29 @@ impl DefTable {
 
     /// Whether a definition is begun and not ended.
     pub fn is_inside(&self) -> bool
-        ensures { result ≡ is_some (defs_of self.now).begun }
+        ensures { result ≡ is_some (definitions_of self.now).begun }
     {
         self.begun.is_some()
     }
 
     /// The definition of a number.
     pub(crate) fn definition(&self, number: u32) -> Option<&Definition>
-        ensures { option_copied result ≡ definition_of (defs_of self.now).complete number }
+        ensures { option_copied result ≡ definition_of (definitions_of self.now).complete number }
     {
         self.complete.get(&number)
     }
 
     /// The line that begins the definition of a number, where there is one.
     fn first_line(&self, number: u32) -> Option<u32>
-        ensures { result ≡ first_line (defs_of self.now).complete number }
+        ensures { result ≡ first_line (definitions_of self.now).complete number }
     {
         self.definition(number).map(|definition| definition.line)
     }
 
     /// `%EventDef name number`
     fn begin(&mut self, n: u32, name: &[u8], number: &[u8]) -> Result<(), DefFault>
-        ensures { Steps (defs_of self.old) (defs_of self.new) result
-            (begin_numbered (defs_of self.old) n name.now (event_number_of number.now)) }
+        ensures { Steps (definitions_of self.old) (definitions_of self.new) result
+            (begin_numbered (definitions_of self.old) n name.now (event_number_of number.now)) }
     {
         let Some(number) = event_number(number) else {
             return Err(DefFault::Shape);
@@ -170,8 +170,8 @@ impl DefTable {
 
     /// `% field type`
     fn field(&mut self, name: &[u8], kind: &[u8]) -> Result<(), DefFault>
-        ensures { Steps (defs_of self.old) (defs_of self.new) result
-            (field_in (defs_of self.old) (defs_of self.old).begun name.now kind.now) }
+        ensures { Steps (definitions_of self.old) (definitions_of self.new) result
+            (field_in (definitions_of self.old) (definitions_of self.old).begun name.now kind.now) }
     {
         let Some(mut begun) = self.begun.take() else {
             return Err(DefFault::Shape);
@@ -183,7 +183,7 @@ impl DefTable {
 
     /// `%EndEventDef`
     fn end(&mut self) -> Result<(), DefFault>
-        ensures { Steps (defs_of self.old) (defs_of self.new) result (end_of (defs_of self.old) (defs_of self.old).begun) }
+        ensures { Steps (definitions_of self.old) (definitions_of self.new) result (end_of (definitions_of self.old) (definitions_of self.old).begun) }
     {
         let Some(begun) = self.begun.take() else {
             return Err(DefFault::Shape);
@@ -207,7 +207,7 @@ impl DefTable {
     /// A definition line, as if none had been refused.
     fn step(&mut self, n: u32, line: &[u8], tokens: &[Token]) -> Result<(), DefFault>
         requires { StandIn (length line.now) tokens.now }
-        ensures { Steps (defs_of self.old) (defs_of self.new) result (line_after (defs_of self.old) n (words_of line.now tokens.now)) }
+        ensures { Steps (definitions_of self.old) (definitions_of self.new) result (line_after (definitions_of self.old) n (words_of line.now tokens.now)) }
     {
         let Some(first) = word(line, tokens, 0) else {
             return Err(DefFault::Shape);
@@ -239,11 +239,11 @@ impl DefTable {
     /// field; `Shape`, `MissingField` with the first role that is missing for an end. `Memory`.
     pub fn line(&mut self, n: u32, line: &[u8], tokens: &[Token]) -> Result<(), DefFault>
         requires { StandIn (length line.now) tokens.now }
-        ensures exact { Takes (defs_of self.old) (defs_of self.new) result
-            (line_after (defs_of self.old) n (words_of line.now tokens.now)) (defs_of self.old).fault }
+        ensures exact { Takes (definitions_of self.old) (definitions_of self.new) result
+            (line_after (definitions_of self.old) n (words_of line.now tokens.now)) (definitions_of self.old).fault }
         // The table is the definitions of all its lines so far.
-        ensures so_far { (before : List Line) → defs_of self.old ≡ defs_of_lines before
-            → TakesNext before (n, words_of line.now tokens.now) (defs_of self.new) result }
+        ensures so_far { (before : List Line) → definitions_of self.old ≡ definitions_of_lines before
+            → TakesNext before (n, words_of line.now tokens.now) (definitions_of self.new) result }
     {
         if let Some(fault) = self.fault {
             return Err(fault);
