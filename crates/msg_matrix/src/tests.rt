@@ -21,15 +21,13 @@ fn message(from: u32, to: u32, send: u64, receive: u64, size: u64) -> Message {
 }
 
 #[test]
-fn matrices(rt: HostRuntime) -> Result<(), Fail> {
+fn a_row_for_each_pair(rt: HostRuntime) -> Result<(), Fail> {
     let alloc = rt.alloc();
-    let both = table(
-        alloc,
-        &[
-            message(1, 2, 1_000_000_000, 1_500_000_000, 100),
-            message(2, 1, 3_000_000_000, 2_500_000_000, 7),
-        ],
-    )?;
+    let messages = [
+        message(1, 2, 1_000_000_000, 1_500_000_000, 100),
+        message(2, 1, 3_000_000_000, 2_500_000_000, 7),
+    ];
+    let both = table(alloc, &messages)?;
     let there = MatrixRow {
         from: 1,
         to: 2,
@@ -48,21 +46,23 @@ fn matrices(rt: HostRuntime) -> Result<(), Fail> {
         greatest: 0,
         backward: 1,
     };
-    assert_eq!(rt;
-        matrix(alloc, &both, 0, 4_000_000_000)?.rows.as_slice(),
-        [there, back].as_slice()
-    );
+    let rows = matrix(alloc, &both, 0, 4_000_000_000)?.rows;
+    assert_eq!(rt; rows.as_slice(), [there, back].as_slice());
+    // The first message is sent where the interval ends.
     assert_eq!(rt; matrix(alloc, &both, 0, 1_000_000_000)?.rows.len(), 0);
+    Ok(())
+}
 
-    let one_pair = table(
-        alloc,
-        &[
-            message(3, 4, 5, 30, 2),
-            message(3, 4, 5, 6, 4),
-            message(3, 4, 10, 20, 0),
-        ],
-    )?;
-    let two = MatrixRow {
+#[test]
+fn messages_of_one_pair_are_added(rt: HostRuntime) -> Result<(), Fail> {
+    let alloc = rt.alloc();
+    let messages = [
+        message(3, 4, 5, 30, 2),
+        message(3, 4, 5, 6, 4),
+        message(3, 4, 10, 20, 0),
+    ];
+    let one_pair = table(alloc, &messages)?;
+    let first_two = MatrixRow {
         from: 3,
         to: 4,
         count: 2,
@@ -71,9 +71,7 @@ fn matrices(rt: HostRuntime) -> Result<(), Fail> {
         greatest: 25,
         backward: 0,
     };
-    assert_eq!(rt;
-        matrix(alloc, &one_pair, 5, 10)?.rows.as_slice(),
-        [two].as_slice()
-    );
+    let rows = matrix(alloc, &one_pair, 5, 10)?.rows;
+    assert_eq!(rt; rows.as_slice(), [first_two].as_slice());
     Ok(())
 }

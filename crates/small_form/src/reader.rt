@@ -10,7 +10,8 @@ use crate::trace::trace_of;
 use std::alloc::Global;
 use trace_base::TraceText;
 
-/// Reads a text of at most 65,536 bytes in the small form. What it answers is a legal trace without messages.
+/// Reads a text of at most 65,536 bytes in the small form. What it answers is a legal trace without messages. `Unbuilt`
+/// where the text isn't in the small form, and `Memory` where none was found.
 #[tactic(auto, unfolding(crate::specs::SmallForm::small_form))]
 pub fn read_small(alloc: Global, text: &[u8]) -> Result<TraceText, SmallFault>
     requires { length text.now ≤ 65536 }
