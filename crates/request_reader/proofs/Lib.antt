@@ -5,3 +5,4 @@ pub mod Lines
 pub mod LongLines
 pub mod Spelling
 pub mod Taking
+pub mod Waiting

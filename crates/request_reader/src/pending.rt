@@ -36,11 +36,11 @@ impl Model for Pending {
 }
 
 impl Pending {
-    ghost use Rattle.std.specs.Prelude.{◌≡◌, ◌≤◌, [], ◌∷◌, IfOk, MatchOption};
+    ghost use Rattle.std.specs.Prelude.{◌≡◌, ◌+◌, ◌≤◌, [], ◌∷◌, IfOk, MatchOption, vec_len, vec_capacity};
     ghost use Rattle.trace_base.specs.Outside.{Rose};
     ghost use Rattle.trace_base.specs.declared.source.ReadAnswer.TheVariants as answer;
     ghost use Rattle.request_reader.specs.Incoming.{left_to_read};
-    ghost use Rattle.request_reader.specs.Reading.{Fills, GivesByte, LeavesNone};
+    ghost use Rattle.request_reader.specs.Reading.{Fills, GivesByte, LeavesNone, Moves};
     ghost use Rattle.request_reader.specs.declared.pending.NextByte.TheVariants as byte;
 
     /// A chunk in which no byte waits.
@@ -73,6 +73,24 @@ impl Pending {
         let byte = self.chunk[self.start];
         self.start += 1;
         Some(byte)
+    }
+
+    /// Adds bytes that wait to the text: all of them, but at most this many. It takes no memory.
+    pub fn move_into(&mut self, text: &mut Vec<u8>, most: usize)
+        requires room { vec_len text.old + most ≤ vec_capacity text.old }
+        ensures moved { Moves most self.old self.new text.old.items text.new.items }
+        ensures room { vec_capacity text.old ≤ vec_capacity text.new }
+    {
+        if self.start >= self.end {
+            return;
+        }
+        let waiting = &self.chunk[self.start..self.end];
+        let count = most.min(waiting.len());
+        match text.extend_from_slice(&waiting[..count]) {
+            Ok(()) => {}
+            Err(_) => unreachable!(),
+        }
+        self.start += count;
     }
 
     // Reads a chunk from the source, in place of what waits.

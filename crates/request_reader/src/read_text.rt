@@ -42,10 +42,10 @@ pub fn read_text<I: Source>(
             Skipped::Failed => TextEnd::Failed,
         };
     }
-    'bytes: for _ in 0..len {
+    while text.len() < len {
         match pending.next_byte(input) {
             NextByte::Byte(byte) => match text.push(byte) {
-                Ok(()) => {}
+                Ok(()) => pending.move_into(text, len - text.len()),
                 Err(_) => unreachable!(),
             },
             NextByte::End => return TextEnd::Cut,

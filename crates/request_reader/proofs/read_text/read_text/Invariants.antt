@@ -1,13 +1,15 @@
-use Rattle.std.proofs.Common.{◌≡◌, ◌≤◌, length, vec_len}
+use Rattle.std.proofs.Common.{◌≡◌, ◌-◌, ◌≤◌, length}
 use Rattle.std.specs.Prelude.{vec_capacity}
 use Rattle.request_reader.specs.Incoming.{Takes, left_to_read}
 use Rattle.request_reader.proofs.read_text.read_text.Given as goal
 
-abbrev pub invariant-bytes : goal.invariant-bytes
-invariant-bytes g l = record {
+abbrev pub invariant-loop-pending : goal.invariant-loop-pending
+invariant-loop-pending g l = record {
   taken : Takes (left_to_read l.fn.pending (g.I.Source.left l.fn.input)) (left_to_read l.pending (g.I.Source.left l.input)) (λ taken. taken ≡ l.text.items);
-  count : length l.text.items ≡ l.counter;
-  len : vec_len l.text ≡ l.counter;
+  count : length l.text.items ≤ l.len;
   room : l.len ≤ vec_capacity l.text;
   later : g.I.Faults.faults l.fn.input ≤ g.I.Faults.faults l.input;
 }
+
+abbrev pub decreases-loop-pending : goal.decreases-loop-pending
+decreases-loop-pending g l = l.len - length l.text.items
