@@ -1,5 +1,5 @@
 -- What it means of the bytes that are left to read that a chunk or a byte was taken from them.
-use Rattle.std.specs.Prelude.{◌≡◌, ◌≢◌, ℕ, ◌≤◌, List, [], ◌∷◌, ◌++◌, length, Option}
+use Rattle.std.specs.Prelude.{◌≡◌, ◌≢◌, ℕ, List, [], ◌∷◌, ◌++◌, length, min, Option}
 use Rattle.trace_base.specs.Outside.{Told}
 use Rattle.trace_base.specs.declared.source.ReadAnswer.{ReadAnswer}
 use Rattle.trace_base.specs.declared.source.ReadAnswer.TheVariants as answer
@@ -18,9 +18,9 @@ GivesByte old new (byte.Byte b) = Told old new (λ was now. was ≡ b ∷ now)
 GivesByte old new byte.End = Told old new (λ was now. (was ≡ []) × (now ≡ []))
 GivesByte old new byte.Failed = new ≡ old
 
--- the first bytes that waited, at most so many, stand behind the text
+-- the bytes that waited stand behind the text, or the first of them, so many
 abbrev pub Moves : ℕ → List ℕ → List ℕ → List ℕ → List ℕ → Type 0
-Moves most was now text longer = (taken : List ℕ) × (was ≡ taken ++ now) × (longer ≡ text ++ taken) × (length taken ≤ most)
+Moves most was now text longer = (taken : List ℕ) × (was ≡ taken ++ now) × (longer ≡ text ++ taken) × (length taken ≡ min most (length was))
 
 -- no byte waits where the source gave none
 abbrev pub LeavesNone : NextByte → List ℕ → Type 0
