@@ -11,7 +11,7 @@ use Rattle.request_reader.specs.Incoming.{Spells, left_to_read}
 use Rattle.request_reader.specs.Requests.{WholeRequest, Put, Flat, Quit, Unreadable, Requests, Ending, AfterQuit, Between, Inside, requests_of, rest_only, onto, first_request}
 use Rattle.trace_session.specs.Output.{WritesFront}
 use Rattle.trace_session.specs.Served.{Served}
-use Rattle.trace_session.specs.Session.{IsSession, ReadsRequests, WritesReplies, Answers, LeavesNone, requests_served}
+use Rattle.trace_session.specs.Session.{IsSession, ReadsRequests, WritesReplies, Answers, LeavesNothing, requests_served}
 use Rattle.trace_session.specs.Step.{Steps, TakesOne, TakesNone}
 use Rattle.trace_session.specs.declared.sessions.End.{End}
 use Rattle.trace_session.specs.declared.sessions.End.TheVariants as ends
@@ -37,7 +37,7 @@ taken_then served Q a b c =
 -- the source ended or failed, and nothing waits
 pub ended : (end : End) (Q : List ℕ → List ℕ → Type 0) (alone : Bool) (old now new : Seat) (limits mid limits' left midway src held written held' : Option (List ℕ)) (pending : List ℕ) → (s : Sofar alone old now limits mid left midway held written) → TakesNone now new mid limits' midway (left_to_read pending src) written held' Q → pending ≡ []
     → ((given bytes is : List ℕ) → Spell given (requests_served s.served) → first_request bytes ≡ None → Q bytes is → Answers end (requests_of (given ++ bytes)) s.served)
-    → ((bytes is : List ℕ) → Q bytes is → LeavesNone end is)
+    → ((bytes is : List ℕ) → Q bytes is → LeavesNothing end is)
     → ((was is : List ℕ) → HasWritten s.served was is → WritesReplies end was is s.served) → IsLegalHistory new.seen → IsSession alone old new limits limits' left src held held' end
 ended end Q alone old now new limits mid limits' left midway src held written held' pending s t none answers leaves writes legal =
     let seat = subst (λ (n : Seat). Done alone old n limits mid s.served) (sym t.seat) s.done in
@@ -101,7 +101,7 @@ failed_answers served given bytes is spell none q =
 -- a request was the last
 pub one_ended : (end : End) (alone : Bool) (old now new : Seat) (limits mid limits' left midway src held written held' : Option (List ℕ)) (pending : List ℕ) → (s : Sofar alone old now limits mid left midway held written) → (t : TakesOne alone now new mid limits' midway (left_to_read pending src) written held' (Some end))
     → ((given bytes : List ℕ) → Spell given (requests_served s.served) → Spells bytes t.request → Answers end (requests_of (given ++ bytes ++ pending)) (one_more s.served t.request (length now.seen) t.answers.serves.block t.answers.reply))
-    → ((is : List ℕ) → LeavesNone end is)
+    → ((is : List ℕ) → LeavesNothing end is)
     → Told held held' (λ was is. WritesReplies end was is (one_more s.served t.request (length now.seen) t.answers.serves.block t.answers.reply)) → IsLegalHistory new.seen → IsSession alone old new limits limits' left src held held' end
 one_ended end alone old now new limits mid limits' left midway src held written held' pending s t answers leaves writes legal =
     let x = one_more s.served t.request (length now.seen) t.answers.serves.block t.answers.reply in

@@ -73,8 +73,8 @@ Needs (Flat id a b) n = n ≡ 1
 Needs Quit n = ⊥
 Needs Unreadable n = ⊥
 
--- The places are used up: nothing is entered. Those that the request needs don't fit behind p places that are taken or
--- promised. In a session that is alone in its hall these are the ones of the entries that it had seen before.
+-- The places are used up: nothing is entered, and those that the request needs don't fit behind p others. In a session that
+-- is alone in its hall p is how many are taken or promised in what it had seen before.
 abbrev pub IsSpent : Bool → List Entry → ℕ → WholeRequest → Reply → List Entry → Type 0
 IsSpent alone history before request r entries =
     (n p : ℕ) × (r ≡ reply.No (no.Spent p)) × (entries ≡ []) × Needs request n × LeavesNoRoom n p

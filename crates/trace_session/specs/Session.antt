@@ -27,16 +27,16 @@ Answers ends.ReadFault asked served = (asked.all ≡ requests_served served) × 
 Answers ends.WriteFault asked served = Begins (requests_served served) asked.all
 
 -- nothing is left to read where the session ended with its source
-abbrev pub LeavesNone : End → List ℕ → Type 0
-LeavesNone ends.Quit now = Unit {0}
-LeavesNone ends.Eof now = now ≡ []
-LeavesNone ends.Cut now = now ≡ []
-LeavesNone ends.ReadFault now = Unit {0}
-LeavesNone ends.WriteFault now = Unit {0}
+abbrev pub LeavesNothing : End → List ℕ → Type 0
+LeavesNothing ends.Quit now = Unit {0}
+LeavesNothing ends.Eof now = now ≡ []
+LeavesNothing ends.Cut now = now ≡ []
+LeavesNothing ends.ReadFault now = Unit {0}
+LeavesNothing ends.WriteFault now = Unit {0}
 
 -- the bytes that the source gave, and what was served of them
 abbrev pub ReadsRequests : End → List ℕ → List ℕ → List Served → Type 0
-ReadsRequests end was now served = (given : List ℕ) × (was ≡ given ++ now) × Answers end (requests_of given) served × LeavesNone end now
+ReadsRequests end was now served = (given : List ℕ) × (was ≡ given ++ now) × Answers end (requests_of given) served × LeavesNothing end now
 
 -- All replies were written, one after another; where the sink failed, all but the last, and of that a front alone.
 abbrev pub WritesReplies : End → List ℕ → List ℕ → List Served → Type 0
