@@ -17,7 +17,7 @@ use Rattle.paje_defs.specs.declared.event.EventFault.{EventFault}
 use Rattle.paje_defs.specs.declared.event.EventFault.TheVariants as faults
 use Rattle.paje_defs.specs.declared.event.Fields.{Fields}
 use Rattle.paje_defs.specs.Places.{is_named, first_name, second_name, needed, place_of, place_of_name, place_or}
-use Rattle.paje_defs.specs.Table.{IsWhole, definition_of}
+use Rattle.paje_defs.specs.Lines.{IsWhole, definition_of}
 use Rattle.paje_defs.specs.Events.{Event, HasNeeded, RolesStand, Tells, event_numbered, event_of, event_under, number_in, role_text, text_at, text_of, time_of_text, timed}
 
 -- ---- where a field stands

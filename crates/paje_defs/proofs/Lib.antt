@@ -1,5 +1,5 @@
 pub mod EventLaws
 pub mod LinesSoFar
 pub mod NumberLemmas
-pub mod TableLemmas
-pub mod WholeLaws
+pub mod OneMoreLine
+pub mod TakenLines

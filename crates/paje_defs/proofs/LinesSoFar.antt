@@ -1,124 +1,202 @@
--- What one more line makes of the definitions of the lines before.
-use Rattle.std.proofs.Common.{◌≡◌, ℕ, inl, inr, List, [], ◌∷◌, ◌++◌, Bool, true, false, Option, Some, None, Result, Ok, Err, MatchResult, cond, refl, sym, ◌∙◌, ap, subst, codes, slice_get}
-use Rattle.std.specs.Str.{bytes_eq}
+-- A table that tells what its lines so far make known has taken one more.
+use Rattle.std.proofs.Common.{◌≡◌, ℕ, inl, inr, List, [], ◌∷◌, ◌++◌, Bool, true, false, Option, Some, None, Result, Ok, Err, IfSome, MatchOption, MatchResult, cond, is_none, is_some, slice_get, nat_eq, refl, sym, ◌∙◌, ap, subst}
+use Rattle.std.specs.List.{find}
+use Rattle.std.specs.Option.{option_and_then, option_map, option_map_or, option_or, option_to_list}
 use Rattle.std.proofs.lemmas.Bool.{true≢false}
-use Rattle.std.proofs.lemmas.List.Sums.{fold-append}
-use Rattle.paje_defs.specs.declared.names.EventName.{EventName}
-use Rattle.paje_defs.specs.declared.names.FieldType.{FieldType}
+use Rattle.std.proofs.lemmas.List.{append-nil}
+use Rattle.std.proofs.lemmas.List.Folds.{find-append}
+use Rattle.indexmap.proofs.MapLemmas.{absent_from_lookup, insert_entry-absent}
 use Rattle.paje_defs.specs.declared.names.Role.{Role}
+use Rattle.paje_defs.specs.declared.table.Definition.{Definition}
 use Rattle.paje_defs.specs.declared.table.Begun.{Begun}
 use Rattle.paje_defs.specs.declared.table.DefFault.{DefFault}
-use Rattle.paje_defs.specs.declared.table.DefFault.TheVariants.{Memory}
-use Rattle.paje_defs.specs.Names.{event_name_of, type_of}
-use Rattle.paje_defs.specs.Numbers.{event_number_of}
+use Rattle.paje_defs.specs.declared.table.DefFault.TheVariants.{Shape, Nested, UnknownName, DoubleNumber, UnknownType, MissingField, Memory}
 use Rattle.paje_defs.specs.Places.{missing}
-use Rattle.paje_defs.specs.Table.{Definitions, Line, begin_new, begin_named, begin_apart, begin_numbered, begin, definitions_of_lines, end_of, end_whole, field, field_in, first_line, grown, line_after, line_from, next, no_definitions, Steps, Takes, TakesNext, with_begun, with_line}
+use Rattle.paje_defs.specs.Lines.{Definitions, Line, Placed, begin_reason, begins, begun_in, complete_in, defined_by, defined_event, defined_number, definitions_of_lines, end_reason, ended_at, ends, entry_of, field_of, field_reason, field_type, first_line, first_of, first_refused, placed, reason, reason_at, refusal, taken, when}
+use Rattle.paje_defs.specs.Table.{Steps, TakesNext, after, after_begin, after_end, after_field, grown, with_ended}
+use Rattle.paje_defs.proofs.OneMoreLine.{begun-more, begun_after, complete-more, placed-more}
+use Rattle.paje_defs.proofs.TakenLines.{IsFresh, Lacks, is_refused, not_both, taken_fresh}
 
--- ---- what the rule gives
+-- ---- the first refused line, among one more
+
+refused-more : (lines : List Line) (line : Line) → first_refused (lines ++ line ∷ []) ≡ option_or (first_refused lines) (find is_refused (record { before = lines; line = line } ∷ []))
+refused-more lines line = ap (find is_refused) (placed-more lines line) ∙ find-append is_refused (placed lines) (record { before = lines; line = line } ∷ [])
+
+abbrev pub all_of : List (ℕ × Definition) → Option Begun → Option DefFault → Definitions
+all_of entries begun fault = record { complete = entries; begun = begun; fault = fault }
+
+-- what is known, by the first refused line
+abbrev pub known : List Line → Option Placed → Definitions
+known lines first = all_of (complete_in (option_map_or (λ p. p.before) first lines)) (begun_in (option_map_or (λ p. p.before) first lines)) (option_and_then reason_at first)
+
+-- Nothing changes behind a refused line.
+refused_stays : (lines : List Line) (line : Line) (first : Option Placed) (fault : DefFault) → first_refused lines ≡ first → option_and_then reason_at first ≡ Some fault
+    → definitions_of_lines (lines ++ line ∷ []) ≡ definitions_of_lines lines
+refused_stays lines line None fault is e = absurd (true≢false (sym (ap is_some e)))
+refused_stays lines line (Some p) fault is e =
+    ap (known (lines ++ line ∷ [])) (refused-more lines line ∙ ap (λ first. option_or first (find is_refused (record { before = lines; line = line } ∷ []))) is)
+    ∙ ap (known lines) (sym is)
+
+-- the first that is found passes
+find_passes : {X : Type 0} (p : X → Bool) (xs : List X) → IfSome (find p xs) (λ x. p x ≡ true)
+find_passes p [] = tt
+find_passes p (x ∷ xs) = by (p x) refl (find_passes p xs)
+  where
+    by : (b : Bool) → p x ≡ b → IfSome (find p xs) (λ x. p x ≡ true) → IfSome (cond b (Some x) (find p xs)) (λ x. p x ≡ true)
+    by true e later = e
+    by false e later = later
+
+none_refused_by : (first : Option Placed) → IfSome first (λ p. is_refused p ≡ true) → option_and_then reason_at first ≡ None → first ≡ None
+none_refused_by None passes e = refl
+none_refused_by (Some p) passes e = absurd (true≢false (sym passes ∙ ap is_some e))
+
+none_refused : (lines : List Line) → refusal lines ≡ None → first_refused lines ≡ None
+none_refused lines e = none_refused_by (first_refused lines) (find_passes is_refused (placed lines)) e
+
+-- ---- one more line, where none before it is refused
+
+one_more_is : (lines : List Line) (line : Line) (why : Option DefFault) → first_refused lines ≡ None → reason_at (record { before = lines; line = line }) ≡ why
+    → first_refused (lines ++ line ∷ []) ≡ cond (is_some why) (Some (record { before = lines; line = line })) None
+one_more_is lines line why none is =
+    refused-more lines line
+    ∙ (ap (λ first. option_or first (find is_refused (record { before = lines; line = line } ∷ []))) none
+    ∙ ap (λ why. cond (is_some why) (Some (record { before = lines; line = line })) None) is)
+
+-- it is the first refused line
+refused_next : (lines : List Line) (line : Line) (fault : DefFault) → first_refused lines ≡ None → reason_at (record { before = lines; line = line }) ≡ Some fault
+    → all_of (complete_in lines) (begun_in lines) (Some fault) ≡ definitions_of_lines (lines ++ line ∷ [])
+refused_next lines line fault none is =
+    sym (ap (known (lines ++ line ∷ [])) (one_more_is lines line (Some fault) none is)
+    ∙ ap (all_of (complete_in lines) (begun_in lines)) is)
+
+ended_goes_last : (entries : List (ℕ × Definition)) (begun : Option Begun) → Lacks entries begun
+    → with_ended entries begun ≡ entries ++ option_to_list (option_map entry_of begun)
+ended_goes_last entries None lacks = sym (append-nil entries)
+ended_goes_last entries (Some b) lacks = insert_entry-absent nat_eq b.number b.definition entries (absent_from_lookup (nat_eq b.number) entries lacks)
+
+after_is : (entries : List (ℕ × Definition)) (begun grown : Option Begun) (line : Line) (fault : Option DefFault) (b e : Bool) → (b ≡ true → e ≡ true → ⊥) → Lacks entries begun
+    → cond b (all_of entries (defined_by [] line) fault) (cond e (all_of (with_ended entries begun) None fault) (all_of entries grown fault))
+    ≡ all_of (entries ++ option_to_list (cond e (option_map entry_of begun) None)) (cond b (defined_by [] line) (cond e None grown)) fault
+after_is entries begun grown line fault true true apart lacks = absurd (apart refl refl)
+after_is entries begun grown line fault true false apart lacks = ap (λ entries. all_of entries (defined_by [] line) fault) (sym (append-nil entries))
+after_is entries begun grown line fault false true apart lacks = ap (λ entries. all_of entries None fault) (ended_goes_last entries begun lacks)
+after_is entries begun grown line fault false false apart lacks = ap (λ entries. all_of entries grown fault) (sym (append-nil entries))
+
+taken_all : (lines : List Line) → first_refused lines ≡ None → taken lines ≡ lines
+taken_all lines none = ap (λ first. option_map_or (λ p. p.before) first lines) none
+
+-- it is taken
+taken_next : (lines : List Line) (line : Line) → first_refused lines ≡ None → reason_at (record { before = lines; line = line }) ≡ None
+    → after (all_of (complete_in lines) (begun_in lines) None) line ≡ definitions_of_lines (lines ++ line ∷ [])
+taken_next lines line none is =
+    after_is (complete_in lines) (begun_in lines) (option_map (grown (option_to_list (field_of line.words))) (begun_in lines)) line None
+    (begins line.words) (ends line.words) (not_both line.words) (subst IsFresh (taken_all lines none) (taken_fresh lines))
+    ∙ (ap (λ entries. all_of entries (begun_after (begun_in lines) line) None) (sym (complete-more lines line))
+    ∙ (ap (λ begun. all_of (complete_in (lines ++ line ∷ [])) begun None) (sym (begun-more lines line))
+    ∙ sym (ap (known (lines ++ line ∷ [])) (one_more_is lines line None none is))))
+
+-- it is refused where there is a reason, and else not
+refusal_next : (lines : List Line) (line : Line) (why : Option DefFault) → first_refused lines ≡ None → reason_at (record { before = lines; line = line }) ≡ why → refusal (lines ++ line ∷ []) ≡ why
+refusal_next lines line why none is = ap (option_and_then reason_at) (one_more_is lines line why none is) ∙ by why is
+  where
+    by : (why : Option DefFault) → reason_at (record { before = lines; line = line }) ≡ why → option_and_then reason_at (cond (is_some why) (Some (record { before = lines; line = line })) None) ≡ why
+    by None is = refl
+    by (Some fault) is = is
+
+-- ---- no reason is want of memory
 
 abbrev pub is_memory : DefFault → Bool
 is_memory Memory = true
 is_memory _ = false
 
--- A line that is taken leaves the refusal as it was, and the rule refuses none for want of memory.
-abbrev pub KeepsFault : Definitions → Result Definitions DefFault → Type 0
-KeepsFault d given = MatchResult given (λ new. new.fault ≡ d.fault) (λ f. is_memory f ≡ false)
+abbrev pub NotMemory : Option DefFault → Type 0
+NotMemory why = IfSome why (λ fault. is_memory fault ≡ false)
 
-new_keeps : (d : Definitions) (n number : ℕ) (event : EventName) (first : Option ℕ) → KeepsFault d (begin_new d n number event first)
-new_keeps d n number event None = refl
-new_keeps d n number event (Some first) = refl
+first_not_memory : (why : Option DefFault) (reasons : List (Option DefFault)) → NotMemory why → NotMemory (first_of reasons) → NotMemory (first_of (why ∷ reasons))
+first_not_memory None reasons first rest = rest
+first_not_memory (Some fault) reasons first rest = first
 
-named_keeps : (d : Definitions) (n number : ℕ) (event : Option EventName) → KeepsFault d (begin_named d n number event)
-named_keeps d n number None = refl
-named_keeps d n number (Some event) = new_keeps d n number event (first_line d.complete number)
+when_not_memory : (b : Bool) (fault : DefFault) → is_memory fault ≡ false → NotMemory (when b fault)
+when_not_memory true fault e = e
+when_not_memory false fault e = tt
 
-apart_keeps : (d : Definitions) (n number : ℕ) (name : List ℕ) (begun : Option Begun) → KeepsFault d (begin_apart d n number name begun)
-apart_keeps d n number name (Some begun) = refl
-apart_keeps d n number name None = named_keeps d n number (event_name_of name)
+double_not_memory : (first : Option ℕ) → NotMemory (option_map (λ first. DoubleNumber first) first)
+double_not_memory None = tt
+double_not_memory (Some first) = refl
 
-numbered_keeps : (d : Definitions) (n : ℕ) (name : List ℕ) (number : Option ℕ) → KeepsFault d (begin_numbered d n name number)
-numbered_keeps d n name None = refl
-numbered_keeps d n name (Some number) = apart_keeps d n number name d.begun
+missing_not_memory : (role : Option Role) → NotMemory (option_map (λ role. MissingField role) role)
+missing_not_memory None = tt
+missing_not_memory (Some role) = refl
 
-begin_keeps : (d : Definitions) (n : ℕ) (name number : Option (List ℕ)) → KeepsFault d (begin d n name number)
-begin_keeps d n (Some name) (Some number) = numbered_keeps d n name (event_number_of number)
-begin_keeps d n (Some name) None = refl
-begin_keeps d n None number = refl
+begin_not_memory : (entries : List (ℕ × Definition)) (begun : Option Begun) (words : List (List ℕ)) → NotMemory (begin_reason entries begun words)
+begin_not_memory entries begun words =
+    first_not_memory (when (is_none (defined_number words)) Shape) _ (when_not_memory (is_none (defined_number words)) Shape refl)
+    (first_not_memory (when (is_some begun) Nested) _ (when_not_memory (is_some begun) Nested refl)
+    (first_not_memory (when (is_none (defined_event words)) UnknownName) _ (when_not_memory (is_none (defined_event words)) UnknownName refl)
+    (first_not_memory (option_map (λ first. DoubleNumber first) (option_and_then (first_line entries) (defined_number words))) []
+    (double_not_memory (option_and_then (first_line entries) (defined_number words))) tt)))
 
-grown_keeps : (d : Definitions) (b : Begun) (name : List ℕ) (kind : Option FieldType) → KeepsFault d (with_begun d (grown b name kind))
-grown_keeps d b name None = refl
-grown_keeps d b name (Some kind) = refl
+field_not_memory : (begun : Option Begun) (words : List (List ℕ)) → NotMemory (field_reason begun words)
+field_not_memory begun words =
+    first_not_memory (when (is_none (slice_get words 1)) Shape) _ (when_not_memory (is_none (slice_get words 1)) Shape refl)
+    (first_not_memory (when (is_none begun) Shape) _ (when_not_memory (is_none begun) Shape refl)
+    (first_not_memory (when (is_none (field_type words)) UnknownType) [] (when_not_memory (is_none (field_type words)) UnknownType refl) tt))
 
-field_in_keeps : (d : Definitions) (begun : Option Begun) (name kind : List ℕ) → KeepsFault d (field_in d begun name kind)
-field_in_keeps d None name kind = refl
-field_in_keeps d (Some b) name kind = grown_keeps d b name (type_of kind)
+end_not_memory : (begun : Option Begun) → NotMemory (end_reason begun)
+end_not_memory begun =
+    first_not_memory (when (is_none begun) Shape) _ (when_not_memory (is_none begun) Shape refl)
+    (first_not_memory (option_map (λ role. MissingField role) (option_and_then (λ b. missing b.definition.event b.definition.fields) begun)) []
+    (missing_not_memory (option_and_then (λ b. missing b.definition.event b.definition.fields) begun)) tt)
 
-field_keeps : (d : Definitions) (name : List ℕ) (kind : Option (List ℕ)) → KeepsFault d (field d name kind)
-field_keeps d name None = refl
-field_keeps d name (Some kind) = field_in_keeps d d.begun name kind
+not_memory : (entries : List (ℕ × Definition)) (begun : Option Begun) (words : List (List ℕ)) → NotMemory (reason entries begun words)
+not_memory entries begun words = by (begins words) (ends words)
+  where
+    by : (b e : Bool) → NotMemory (cond b (begin_reason entries begun words) (cond e (end_reason begun) (field_reason begun words)))
+    by true e = begin_not_memory entries begun words
+    by false true = end_not_memory begun
+    by false false = field_not_memory begun words
 
-whole_keeps : (d : Definitions) (b : Begun) (role : Option Role) → KeepsFault d (end_whole d b role)
-whole_keeps d b (Some role) = refl
-whole_keeps d b None = refl
+-- ---- a table
 
-end_keeps : (d : Definitions) (begun : Option Begun) → KeepsFault d (end_of d begun)
-end_keeps d None = refl
-end_keeps d (Some b) = whole_keeps d b (missing b.definition.event b.definition.fields)
+-- the lines before are all taken
+none_before : (before : List Line) (old : Definitions) → old ≡ definitions_of_lines before → old.fault ≡ None → first_refused before ≡ None
+none_before before old is e = none_refused before (sym (ap (λ d. d.fault) is) ∙ e)
 
-choice_keeps : (d : Definitions) (begins ends : Bool) (x y z : Result Definitions DefFault) → KeepsFault d x → KeepsFault d y → KeepsFault d z → KeepsFault d (cond begins x (cond ends y z))
-choice_keeps d true ends x y z a b c = a
-choice_keeps d false true x y z a b c = b
-choice_keeps d false false x y z a b c = c
+all_before : (before : List Line) (old : Definitions) → old ≡ definitions_of_lines before → old.fault ≡ None → old ≡ all_of (complete_in before) (begun_in before) None
+all_before before old is e = is ∙ ap (known before) (none_before before old is e)
 
-from_keeps : (d : Definitions) (n : ℕ) (first : Option (List ℕ)) (words : List (List ℕ)) → KeepsFault d (line_from d n first words)
-from_keeps d n None words = refl
-from_keeps d n (Some first) words =
-    choice_keeps d (bytes_eq first (codes "EventDef")) (bytes_eq first (codes "EndEventDef"))
-    (begin d n (slice_get words 1) (slice_get words 2)) (end_of d d.begun) (field d first (slice_get words 1))
-    (begin_keeps d n (slice_get words 1) (slice_get words 2)) (end_keeps d d.begun) (field_keeps d first (slice_get words 1))
+abbrev pub StepsBy : Definitions → Line → Definitions → Result (Unit {0}) DefFault → Type 0
+StepsBy old line new r = Steps old new r (reason old.complete old.begun line.words) (after old line)
 
-pub line_keeps_fault : (d : Definitions) (n : ℕ) (words : List (List ℕ)) → KeepsFault d (line_after d n words)
-line_keeps_fault d n words = from_keeps d n (slice_get words 0) words
+-- It was refused before.
+pub refused_before : (before : List Line) (line : Line) (old : Definitions) (fault : DefFault) → old ≡ definitions_of_lines before → old.fault ≡ Some fault
+    → old ≡ definitions_of_lines (before ++ line ∷ [])
+refused_before before line old fault is e = is ∙ sym (refused_stays before line (first_refused before) fault refl (sym (ap (λ d. d.fault) is) ∙ e))
 
--- ---- memory
+-- The line is taken.
+pub takes_line : (before : List Line) (line : Line) (old new : Definitions) (r : Unit {0}) → old ≡ definitions_of_lines before → old.fault ≡ None → StepsBy old line new (Ok r)
+    → (new ≡ definitions_of_lines (before ++ line ∷ [])) × (new.fault ≡ None)
+takes_line before line old new r is e steps =
+    let none = none_before before old is e in
+    let by_facts : StepsBy (all_of (complete_in before) (begun_in before) None) line new (Ok r) = subst (λ d. StepsBy d line new (Ok r)) (all_before before old is e) steps in
+    let next : new ≡ definitions_of_lines (before ++ line ∷ []) = by_facts.1 ∙ taken_next before line none by_facts.0 in
+    (next, ap (λ d. d.fault) next ∙ refusal_next before line None none by_facts.0)
 
--- what the rule gives is no refusal for want of memory
-never_memory : (d : Definitions) (given : Result Definitions DefFault) (f : DefFault) → KeepsFault d given → given ≡ Err f → f ≡ Memory → ⊥
-never_memory d given f keeps e memory = true≢false (sym (ap is_memory memory) ∙ subst (KeepsFault d) e keeps)
+-- The line is refused.
+pub refuses_line : (before : List Line) (line : Line) (old new : Definitions) (fault : DefFault) → old ≡ definitions_of_lines before → old.fault ≡ None → is_memory fault ≡ false
+    → StepsBy old line new (Err fault) → all_of new.complete new.begun (Some fault) ≡ definitions_of_lines (before ++ line ∷ [])
+refuses_line before line old new fault is e apart (same, inl out) = absurd (true≢false (sym (ap is_memory out.0) ∙ apart))
+refuses_line before line old new fault is e apart (same, inr why) =
+    let facts = all_before before old is e in
+    ap (λ d. all_of d.complete d.begun (Some fault)) (same ∙ facts)
+    ∙ refused_next before line fault (none_before before old is e) (subst (λ d. reason d.complete d.begun line.words ≡ Some fault) facts why)
 
-ran_out_by : (old new : Definitions) (given : Result Definitions DefFault) (f : DefFault) → KeepsFault old given → f ≡ Memory → Steps {U = Unit {0}} old new (Err f) given
-    → Takes {U = Unit {0}} old new (Err f) given None
-ran_out_by old new given f keeps memory (same, inl ran_out) = inl (ran_out.0, ran_out.1, same)
-ran_out_by old new given f keeps memory (same, inr refused) = absurd (never_memory old given f keeps refused memory)
-
--- a step for which memory ran out
-pub ran_out : (old new : Definitions) (n : ℕ) (words : List (List ℕ)) (f : DefFault) (before : Option DefFault) → before ≡ None → f ≡ Memory
-    → Steps {U = Unit {0}} old new (Err f) (line_after old n words) → Takes {U = Unit {0}} old new (Err f) (line_after old n words) before
-ran_out old new n words f before none memory steps =
-    subst (λ o. Takes {U = Unit {0}} old new (Err f) (line_after old n words) o) (sym none)
-    (ran_out_by old new (line_after old n words) f (line_keeps_fault old n words) memory steps)
-
--- ---- one more line
-
-one_more : (before : List Line) (line : Line) (old : Definitions) (fault : Option DefFault) → old ≡ definitions_of_lines before → old.fault ≡ fault
-    → next old fault (line_after old line.0 line.1) ≡ definitions_of_lines (before ++ line ∷ [])
-one_more before line old fault is e =
-    ap (λ f. next old f (line_after old line.0 line.1)) (sym e)
-    ∙ (ap (λ d. with_line d line) is ∙ sym (fold-append with_line no_definitions before (line ∷ [])))
-
-takes_next_by : {U : Type 0} (before : List Line) (line : Line) (old new : Definitions) (r : Result U DefFault) (fault : Option DefFault)
-    → old ≡ definitions_of_lines before → old.fault ≡ fault → Takes old new r (line_after old line.0 line.1) fault → TakesNext before line new r
-takes_next_by before line old new r (Some f) is e takes =
-    subst (λ r. TakesNext before line new r) (sym takes.0)
-    (inr (takes.1 ∙ one_more before line old (Some f) is e, ap (λ d. d.fault) takes.1 ∙ e))
-takes_next_by before line old new (Ok u) None is e takes = (
-  ap (next old None) (sym takes) ∙ one_more before line old None is e,
-  subst (KeepsFault old) takes (line_keeps_fault old line.0 line.1) ∙ e,
+-- Memory ran out.
+pub runs_out : (before : List Line) (line : Line) (old new : Definitions) (fault : DefFault) → old ≡ definitions_of_lines before → old.fault ≡ None → fault ≡ Memory
+    → StepsBy old line new (Err fault) → (refusal (before ++ line ∷ []) ≡ None) × (new ≡ definitions_of_lines before)
+runs_out before line old new fault is e memory (same, inl out) = (
+  refusal_next before line None (none_before before old is e) (subst (λ d. reason d.complete d.begun line.words ≡ None) (all_before before old is e) out.1),
+  same ∙ is,
 )
-takes_next_by before line old new (Err f) None is e (inl ran_out) = inl (ran_out.0, ran_out.2 ∙ is)
-takes_next_by before line old new (Err f) None is e (inr refused) =
-    inr (refused.1 ∙ (ap (next old None) (sym refused.0) ∙ one_more before line old None is e), ap (λ d. d.fault) refused.1)
-
-pub takes_next : {U : Type 0} (before : List Line) (line : Line) (old new : Definitions) (r : Result U DefFault)
-    → old ≡ definitions_of_lines before → Takes old new r (line_after old line.0 line.1) old.fault → TakesNext before line new r
-takes_next before line old new r is takes = takes_next_by before line old new r old.fault is refl takes
+runs_out before line old new fault is e memory (same, inr why) =
+    absurd (true≢false (sym (ap is_memory memory) ∙ subst NotMemory why (not_memory old.complete old.begun line.words)))

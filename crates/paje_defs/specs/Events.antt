@@ -18,7 +18,7 @@ use Rattle.paje_defs.specs.declared.event.Texts.{Texts}
 use Rattle.paje_defs.specs.declared.event.Fields.{Fields}
 use Rattle.paje_defs.specs.Numbers.{event_number_of, size_of}
 use Rattle.paje_defs.specs.Places.{needed, place_of}
-use Rattle.paje_defs.specs.Table.{definition_of}
+use Rattle.paje_defs.specs.Lines.{definition_of}
 
 -- the text of the field at a place: the first token is the number
 abbrev pub text_at : List (List ℕ) → Option ℕ → Option (List ℕ)

@@ -1,6 +1,6 @@
 -- Lines as their bytes, for the worked rows.
-use Rattle.std.specs.Prelude.{ℕ, List, [], ◌∷◌, length, map, codes, Option, Ok, Err, Result}
-use Rattle.std.specs.List.{range_with_len, zip}
+use Rattle.std.specs.Prelude.{ℕ, ◌+◌, List, [], ◌∷◌, map, codes, Option, Ok, Err, Result}
+use Rattle.std.specs.Option.{option_map}
 use Rattle.paje_lex.specs.declared.line.Token.{Token}
 use Rattle.paje_lex.specs.declared.line.LexFault.{LexFault}
 use Rattle.paje_lex.specs.LineReading.{scanned}
@@ -11,7 +11,8 @@ use Rattle.paje_defs.specs.declared.names.Role.{Role}
 use Rattle.paje_defs.specs.declared.fields.Field.{Field}
 use Rattle.paje_defs.specs.declared.table.Definition.{Definition}
 use Rattle.paje_defs.specs.declared.event.EventFault.{EventFault}
-use Rattle.paje_defs.specs.Table.{Definitions, Line, words_of, definitions_of_lines}
+use Rattle.paje_defs.specs.Lines.{Definitions, Line, definitions_of_lines, first_refused}
+use Rattle.paje_defs.specs.Table.{words_of}
 use Rattle.paje_defs.specs.Events.{Event, event_of, role_text, size_in, message_size}
 
 abbrev pub words_of_answer : List ℕ → Result (List Token) LexFault → List (List ℕ)
@@ -22,12 +23,20 @@ words_of_answer line (Err e) = []
 abbrev pub words_in : List ℕ → List (List ℕ)
 words_in line = words_of_answer line (scanned line)
 
+abbrev pub numbered_from : ℕ → List (List ℕ) → List Line
+numbered_from n [] = []
+numbered_from n (line ∷ lines) = record { number = n; words = words_in line } ∷ numbered_from (n + 1) lines
+
 -- these lines, numbered from 1
 abbrev pub numbered : List (List ℕ) → List Line
-numbered lines = zip (range_with_len 1 (length lines)) (map words_in lines)
+numbered lines = numbered_from 1 lines
 
 abbrev pub definitions_in : List (List ℕ) → Definitions
 definitions_in lines = definitions_of_lines (numbered lines)
+
+-- the number of the first refused line
+abbrev pub refused_line : List (List ℕ) → Option ℕ
+refused_line lines = option_map (λ p. p.line.number) (first_refused (numbered lines))
 
 abbrev pub defined : ℕ → ℕ → EventName → List Field → ℕ × Definition
 defined number line event fields = (number, record { line = line; event = event; fields = fields })

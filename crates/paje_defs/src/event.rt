@@ -3,7 +3,8 @@ ghost use Rattle.std.specs.Option.{option_copied};
 ghost use Rattle.paje_lex.specs.LineReading.{StandIn};
 ghost use Rattle.paje_defs.specs.declared.names.Role.{Role};
 ghost use Rattle.paje_defs.specs.Events.{AreFields, Event, HasNeeded, RolesStand, Tells, event_of, message_size, role_text, size_in, text_of, timed, time_of_text};
-ghost use Rattle.paje_defs.specs.Table.{Line, definitions_of, definitions_of_lines, words_of};
+ghost use Rattle.paje_defs.specs.Lines.{Line, definitions_of_lines};
+ghost use Rattle.paje_defs.specs.Table.{definitions_of, words_of};
 
 use crate::fields::place;
 use crate::names::{EventName, FieldType, Role};

@@ -1,9 +1,10 @@
-ghost use Rattle.std.specs.Prelude.{◌≡◌, ◌+◌, List, length, codes, slice_get, is_some, None, Some, []};
-ghost use Rattle.std.specs.Option.{option_copied};
+ghost use Rattle.std.specs.Prelude.{◌≡◌, ◌+◌, List, length, codes, slice_get, is_none, is_some, None, Some, Err, []};
+ghost use Rattle.std.specs.Option.{option_copied, option_to_list};
 ghost use Rattle.paje_lex.specs.LineReading.{StandIn};
-ghost use Rattle.paje_defs.specs.Table.{Line, Steps, Takes, TakesNext, begin_numbered, definition_of, definitions_of, definitions_of_lines, end_of, field_in, first_line, grown, line_after, no_definitions, words_of};
-ghost use Rattle.paje_defs.specs.Names.{type_of};
-ghost use Rattle.paje_defs.specs.Numbers.{event_number_of};
+ghost use Rattle.paje_defs.specs.declared.table.DefFault.{DefFault};
+ghost use Rattle.paje_defs.specs.declared.table.DefFault.TheVariants.{UnknownType};
+ghost use Rattle.paje_defs.specs.Lines.{Line, begin_reason, defined_event, defined_number, definition_of, definitions_of_lines, end_reason, field_name, field_of, field_reason, field_type, first_line, opens_with, reason, when};
+ghost use Rattle.paje_defs.specs.Table.{Steps, TakesNext, after, after_begin, after_end, after_field, definitions_of, grown, line_of, words_of};
 
 use crate::fields::{Field, missing};
 use crate::names::{EventName, FieldName, FieldType, Role};
@@ -58,14 +59,16 @@ pub struct Begun {
 }
 
 impl Begun {
-    /// Adds a field.
-    fn add(&mut self, name: &[u8], kind: &[u8]) -> Result<(), DefFault>
-        ensures { Steps self.old self.new result (grown self.old name.now (type_of kind.now)) }
+    /// Adds the field of a line.
+    fn add(&mut self, line: &[u8], tokens: &[Token]) -> Result<(), DefFault>
+        requires { StandIn (length line.now) tokens.now }
+        ensures { Steps self.old self.new result (when (is_none (field_type (words_of line.now tokens.now))) UnknownType)
+            (grown (option_to_list (field_of (words_of line.now tokens.now))) self.old) }
     {
-        let Some(kind) = FieldType::from_text(kind) else {
+        let Some(kind) = field_type(line, tokens) else {
             return Err(DefFault::UnknownType);
         };
-        let name = FieldName::from_text(name);
+        let name = field_name(line, tokens);
         match self.definition.fields.push(Field { name, kind }) {
             Ok(()) => Ok(()),
             Err(_) => Err(DefFault::Memory),
@@ -106,10 +109,65 @@ fn end_text() -> &'static [u8]
     b"EndEventDef"
 }
 
+/// Whether the first token of a line is a name.
+fn opens_with(name: &[u8], line: &[u8], tokens: &[Token]) -> bool
+    requires { StandIn (length line.now) tokens.now }
+    ensures { result ≡ opens_with name.now (words_of line.now tokens.now) }
+{
+    match word(line, tokens, 0) {
+        Some(first) => first == name,
+        None => false,
+    }
+}
+
+/// The event of a line that begins a definition.
+fn defined_event(line: &[u8], tokens: &[Token]) -> Option<EventName>
+    requires { StandIn (length line.now) tokens.now }
+    ensures { result ≡ defined_event (words_of line.now tokens.now) }
+{
+    match word(line, tokens, 1) {
+        Some(name) => EventName::from_text(name),
+        None => None,
+    }
+}
+
+/// The number of a line that begins a definition.
+fn defined_number(line: &[u8], tokens: &[Token]) -> Option<u32>
+    requires { StandIn (length line.now) tokens.now }
+    ensures { result ≡ defined_number (words_of line.now tokens.now) }
+{
+    match word(line, tokens, 2) {
+        Some(number) => event_number(number),
+        None => None,
+    }
+}
+
+/// The name of the field of a line.
+fn field_name(line: &[u8], tokens: &[Token]) -> FieldName
+    requires { StandIn (length line.now) tokens.now }
+    ensures { result ≡ field_name (words_of line.now tokens.now) }
+{
+    match word(line, tokens, 0) {
+        Some(name) => FieldName::from_text(name),
+        None => FieldName::Other,
+    }
+}
+
+/// The type of the field of a line.
+fn field_type(line: &[u8], tokens: &[Token]) -> Option<FieldType>
+    requires { StandIn (length line.now) tokens.now }
+    ensures { result ≡ field_type (words_of line.now tokens.now) }
+{
+    match word(line, tokens, 1) {
+        Some(kind) => FieldType::from_text(kind),
+        None => None,
+    }
+}
+
 impl DefTable {
     /// No definitions. It takes no memory.
     pub fn new(alloc: Global) -> DefTable
-        ensures { definitions_of result ≡ no_definitions }
+        ensures { definitions_of result ≡ definitions_of_lines [] }
     {
         DefTable {
             alloc,
@@ -141,17 +199,19 @@ impl DefTable {
     }
 
     /// `%EventDef name number`
-    fn begin(&mut self, n: u32, name: &[u8], number: &[u8]) -> Result<(), DefFault>
+    fn begin(&mut self, n: u32, line: &[u8], tokens: &[Token]) -> Result<(), DefFault>
+        requires { StandIn (length line.now) tokens.now }
         ensures { Steps (definitions_of self.old) (definitions_of self.new) result
-            (begin_numbered (definitions_of self.old) n name.now (event_number_of number.now)) }
+            (begin_reason (definitions_of self.old).complete (definitions_of self.old).begun (words_of line.now tokens.now))
+            (after_begin (definitions_of self.old) (line_of n line.now tokens.now)) }
     {
-        let Some(number) = event_number(number) else {
+        let Some(number) = defined_number(line, tokens) else {
             return Err(DefFault::Shape);
         };
         if self.begun.is_some() {
             return Err(DefFault::Nested);
         }
-        let Some(event) = EventName::from_text(name) else {
+        let Some(event) = defined_event(line, tokens) else {
             return Err(DefFault::UnknownName);
         };
         if let Some(first) = self.first_line(number) {
@@ -169,21 +229,26 @@ impl DefTable {
     }
 
     /// `% field type`
-    fn field(&mut self, name: &[u8], kind: &[u8]) -> Result<(), DefFault>
+    fn field(&mut self, line: &[u8], tokens: &[Token]) -> Result<(), DefFault>
+        requires { StandIn (length line.now) tokens.now }
         ensures { Steps (definitions_of self.old) (definitions_of self.new) result
-            (field_in (definitions_of self.old) (definitions_of self.old).begun name.now kind.now) }
+            (field_reason (definitions_of self.old).begun (words_of line.now tokens.now))
+            (after_field (definitions_of self.old) (words_of line.now tokens.now)) }
     {
+        if word(line, tokens, 1).is_none() {
+            return Err(DefFault::Shape);
+        }
         let Some(mut begun) = self.begun.take() else {
             return Err(DefFault::Shape);
         };
-        let added = begun.add(name, kind);
+        let added = begun.add(line, tokens);
         self.begun = Some(begun);
         added
     }
 
     /// `%EndEventDef`
     fn end(&mut self) -> Result<(), DefFault>
-        ensures { Steps (definitions_of self.old) (definitions_of self.new) result (end_of (definitions_of self.old) (definitions_of self.old).begun) }
+        ensures { Steps (definitions_of self.old) (definitions_of self.new) result (end_reason (definitions_of self.old).begun) (after_end (definitions_of self.old)) }
     {
         let Some(begun) = self.begun.take() else {
             return Err(DefFault::Shape);
@@ -207,24 +272,17 @@ impl DefTable {
     /// A definition line, as if none had been refused.
     fn step(&mut self, n: u32, line: &[u8], tokens: &[Token]) -> Result<(), DefFault>
         requires { StandIn (length line.now) tokens.now }
-        ensures { Steps (definitions_of self.old) (definitions_of self.new) result (line_after (definitions_of self.old) n (words_of line.now tokens.now)) }
+        ensures { Steps (definitions_of self.old) (definitions_of self.new) result
+            (reason (definitions_of self.old).complete (definitions_of self.old).begun (words_of line.now tokens.now))
+            (after (definitions_of self.old) (line_of n line.now tokens.now)) }
     {
-        let Some(first) = word(line, tokens, 0) else {
-            return Err(DefFault::Shape);
-        };
-        if first == end_text() {
+        if opens_with(begin_text(), line, tokens) {
+            return self.begin(n, line, tokens);
+        }
+        if opens_with(end_text(), line, tokens) {
             return self.end();
         }
-        let Some(second) = word(line, tokens, 1) else {
-            return Err(DefFault::Shape);
-        };
-        if first != begin_text() {
-            return self.field(first, second);
-        }
-        let Some(third) = word(line, tokens, 2) else {
-            return Err(DefFault::Shape);
-        };
-        self.begin(n, second, third)
+        self.field(line, tokens)
     }
 
     /// Takes a definition line, the `n`th of its text, with the tokens that it has.
@@ -239,11 +297,11 @@ impl DefTable {
     /// field; `Shape`, `MissingField` with the first role that is missing for an end. `Memory`.
     pub fn line(&mut self, n: u32, line: &[u8], tokens: &[Token]) -> Result<(), DefFault>
         requires { StandIn (length line.now) tokens.now }
-        ensures exact { Takes (definitions_of self.old) (definitions_of self.new) result
-            (line_after (definitions_of self.old) n (words_of line.now tokens.now)) (definitions_of self.old).fault }
-        // The table is the definitions of all its lines so far.
+        // The table tells what its lines so far make known.
         ensures so_far { (before : List Line) → definitions_of self.old ≡ definitions_of_lines before
-            → TakesNext before (n, words_of line.now tokens.now) (definitions_of self.new) result }
+            → TakesNext before (line_of n line.now tokens.now) (definitions_of self.new) result }
+        ensures refused { (fault : DefFault) → (definitions_of self.old).fault ≡ Some fault
+            → (result ≡ Err fault) × (definitions_of self.new ≡ definitions_of self.old) }
     {
         if let Some(fault) = self.fault {
             return Err(fault);

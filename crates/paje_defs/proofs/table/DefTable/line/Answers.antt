@@ -1,21 +1,27 @@
-use Rattle.std.proofs.Common.{rules, ◌≡◌, None, sym, subst}
+use Rattle.std.proofs.Common.{rules, ◌≡◌, inl, inr, false, Some, sym, subst, ap, refl}
 use Rattle.paje_defs.specs.declared.table.DefFault.TheVariants.{Memory}
-use Rattle.paje_defs.specs.Table.{Takes, definitions_of, words_of, line_after}
-use Rattle.paje_defs.proofs.LinesSoFar.{ran_out, takes_next}
+use Rattle.paje_defs.specs.Table.{TakesNext, definitions_of, line_of}
+use Rattle.paje_defs.proofs.LinesSoFar.{StepsBy, is_memory, refused_before, refuses_line, runs_out, takes_line}
 use Rattle.paje_defs.proofs.table.DefTable.line.Goals as goal
 
-pub returns-else-ne-clause-exact : goal.returns-else-ne-clause-exact
-returns-else-ne-clause-exact c =
+pub returns-in-Some-clause-so_far : goal.returns-in-Some-clause-so_far
+returns-in-Some-clause-so_far c before is =
+    inr (refused_before before (line_of c.args.n c.args.line.now c.args.tokens.now) (definitions_of c.args.self.now) c.in-Some.fault is c.in-Some.is, c.in-Some.is)
+
+pub returns-then-ne-clause-so_far : goal.returns-then-ne-clause-so_far
+returns-then-ne-clause-so_far c before is =
+    let apart : is_memory c.in-Err.fault ≡ false = search rules in
+    inr (refuses_line before (line_of c.args.n c.args.line.now c.args.tokens.now) (definitions_of c.args.self.now) (definitions_of c.step-taken.new.self) c.in-Err.fault is c.in_default.is apart c.in-Err.ensures, refl)
+
+pub returns-else-ne-clause-so_far : goal.returns-else-ne-clause-so_far
+returns-else-ne-clause-so_far c before is =
     let memory : c.in-Err.fault ≡ Memory = search rules in
-    ran_out (definitions_of c.args.self.now) (definitions_of c.step-taken.new.self) c.args.n (words_of c.args.line.now c.args.tokens.now) c.in-Err.fault
-    c.args.self.now.fault c.in_default.is memory c.in-Err.ensures
+    let out = runs_out before (line_of c.args.n c.args.line.now c.args.tokens.now) (definitions_of c.args.self.now) (definitions_of c.step-taken.new.self) c.in-Err.fault is c.in_default.is memory c.in-Err.ensures in
+    inl (memory, out.0, out.1)
 
 pub returns-in_default-taken-clause-so_far : goal.returns-in_default-taken-clause-so_far
 returns-in_default-taken-clause-so_far c before is =
-    let words = words_of c.args.line.now c.args.tokens.now in
-    let old = definitions_of c.args.self.now in
+    let line = line_of c.args.n c.args.line.now c.args.tokens.now in
     let new = definitions_of c.step-taken.new.self in
-    let given = line_after old c.args.n words in
-    takes_next before (c.args.n, words) old new c.step-taken.result is
-    (subst (λ o. Takes old new c.step-taken.result given o) (sym c.in_default.is)
-    (subst (λ r. Takes old new r given None) (sym c.in_default-taken.is) c.in_default-taken.ensures))
+    subst (λ r. TakesNext before line new r) (sym c.in_default-taken.is)
+    (takes_line before line (definitions_of c.args.self.now) new c.in_default-taken.field-0 is c.in_default.is c.in_default-taken.ensures)
