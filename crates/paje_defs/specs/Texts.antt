@@ -1,9 +1,8 @@
 -- Lines as their bytes, for the worked rows.
-use Rattle.std.specs.Prelude.{ℕ, ◌+◌, List, [], ◌∷◌, map, codes, Option, Ok, Err, Result}
+use Rattle.std.specs.Prelude.{ℕ, ◌+◌, List, [], ◌∷◌, length, drop, filter, map, codes, nat_lt, Option, Ok, Err, Result}
+use Rattle.std.specs.List.{slice_split}
 use Rattle.std.specs.Option.{option_map}
-use Rattle.paje_lex.specs.declared.line.Token.{Token}
-use Rattle.paje_lex.specs.declared.line.LexFault.{LexFault}
-use Rattle.paje_lex.specs.LineReading.{scanned}
+use Rattle.paje_lex.specs.LineKinds.{is_blank, tokens_start}
 use Rattle.paje_defs.specs.declared.names.FieldName.{FieldName}
 use Rattle.paje_defs.specs.declared.names.FieldType.{FieldType}
 use Rattle.paje_defs.specs.declared.names.EventName.{EventName}
@@ -12,16 +11,11 @@ use Rattle.paje_defs.specs.declared.fields.Field.{Field}
 use Rattle.paje_defs.specs.declared.table.Definition.{Definition}
 use Rattle.paje_defs.specs.declared.event.EventFault.{EventFault}
 use Rattle.paje_defs.specs.Lines.{Definitions, Line, definitions_of_lines, first_refused}
-use Rattle.paje_defs.specs.Table.{words_of}
 use Rattle.paje_defs.specs.Events.{Event, event_of, role_text, size_in, message_size}
 
-abbrev pub words_of_answer : List ℕ → Result (List Token) LexFault → List (List ℕ)
-words_of_answer line (Ok tokens) = words_of line tokens
-words_of_answer line (Err e) = []
-
--- the tokens of a line as bytes
+-- the words of a line without quotes
 abbrev pub words_in : List ℕ → List (List ℕ)
-words_in line = words_of_answer line (scanned line)
+words_in line = filter (λ word. nat_lt 0 (length word)) (slice_split is_blank (drop (tokens_start line) line))
 
 abbrev pub numbered_from : ℕ → List (List ℕ) → List Line
 numbered_from n [] = []

@@ -1,6 +1,6 @@
 ghost use Rattle.std.specs.Prelude.{◌≡◌, ◌<◌, List, length, MatchResult, IfOk, Some, Ok, Err};
 ghost use Rattle.std.specs.Option.{option_copied};
-ghost use Rattle.paje_lex.specs.LineReading.{StandIn};
+ghost use Rattle.paje_lex.specs.LineGrammar.{StandIn};
 ghost use Rattle.paje_defs.specs.declared.names.Role.{Role};
 ghost use Rattle.paje_defs.specs.Events.{AreFields, Event, HasNeeded, RolesStand, Tells, event_of, message_size, role_text, size_in, text_of, timed, time_of_text};
 ghost use Rattle.paje_defs.specs.Lines.{Line, definitions_of_lines};

@@ -1,6 +1,6 @@
 ghost use Rattle.std.specs.Prelude.{◌≡◌, ◌+◌, List, length, codes, slice_get, is_none, is_some, None, Some, Err, []};
 ghost use Rattle.std.specs.Option.{option_copied, option_to_list};
-ghost use Rattle.paje_lex.specs.LineReading.{StandIn};
+ghost use Rattle.paje_lex.specs.LineGrammar.{StandIn};
 ghost use Rattle.paje_defs.specs.declared.table.DefFault.{DefFault};
 ghost use Rattle.paje_defs.specs.declared.table.DefFault.TheVariants.{UnknownType};
 ghost use Rattle.paje_defs.specs.Lines.{Line, begin_reason, defined_event, defined_number, definition_of, definitions_of_lines, end_reason, field_name, field_of, field_reason, field_type, first_line, opens_with, reason, when};

@@ -10,8 +10,8 @@ use Rattle.paje_lex.specs.declared.line.LexFault.{LexFault}
 use Rattle.paje_lex.specs.declared.line.LexFault.TheVariants.{NotText, OpenQuote, Memory}
 use Rattle.paje_lex.specs.declared.line.State.TheVariants.{Between, Plain, Quoted}
 use Rattle.paje_lex.specs.LineKinds.{is_blank, tokens_start}
-use Rattle.paje_lex.specs.LineReading.{Answer, token, scan, joined, lexed, UnlessMemory}
-use Rattle.paje_lex.specs.LineGrammar.{Piece, blank, quoted, plain, piece_text, pieces_text, NoQuotes, NoBlanks, IsPlain, IsPiece, MayFollow, ArePieces, tokens_from, IsCut, IsOpen, body_of_line, Lexes, LexesUnlessMemory}
+use Rattle.paje_lex.specs.LineReading.{scan, joined, lexed}
+use Rattle.paje_lex.specs.LineGrammar.{Answer, token, UnlessMemory, Piece, blank, quoted, plain, piece_text, pieces_text, NoQuotes, NoBlanks, IsPlain, IsPiece, MayFollow, ArePieces, tokens_from, IsCut, IsOpen, body_of_line, Lexes, LexesUnlessMemory}
 use Rattle.paje_lex.proofs.LineLemmas.{lexed_text, lexed_not_text}
 
 pub joined_nothing : (r : Result (List Token) LexFault) → joined [] r ≡ r

@@ -6,7 +6,8 @@ use Rattle.std.proofs.lemmas.Str.{IsUtf8-from_is_utf8, is_utf8-from_IsUtf8}
 use Rattle.paje_lex.specs.declared.line.Token.{Token}
 use Rattle.paje_lex.specs.declared.line.LexFault.{LexFault}
 use Rattle.paje_lex.specs.declared.line.LexFault.TheVariants.{NotText}
-use Rattle.paje_lex.specs.LineReading.{lexed, scanned, UnlessMemory}
+use Rattle.paje_lex.specs.LineGrammar.{UnlessMemory}
+use Rattle.paje_lex.specs.LineReading.{lexed, scanned}
 
 pub lexed_text : (line : List ℕ) → IsUtf8 line → lexed line ≡ scanned line
 lexed_text line text = rw (is_utf8-from_IsUtf8 line text) refl

@@ -8,7 +8,8 @@ use Rattle.paje_lex.specs.declared.line.LexFault.{LexFault}
 use Rattle.paje_lex.specs.declared.line.State.{State}
 use Rattle.paje_lex.specs.declared.line.State.TheVariants.{Between, Plain, Quoted}
 use Rattle.paje_lex.specs.LineKinds.{is_blank}
-use Rattle.paje_lex.specs.LineReading.{token, starting, step, scan, joined, IsBefore, UnlessMemory, StandIn}
+use Rattle.paje_lex.specs.LineGrammar.{token, StandIn, UnlessMemory}
+use Rattle.paje_lex.specs.LineReading.{starting, step, scan, joined, IsBefore}
 
 -- the tokens end by a place
 abbrev EndBy : ℕ → List Token → Type 0

@@ -1,12 +1,18 @@
 -- The tokens of a line by its grammar: a line is cut into blanks, quoted tokens and plain ones.
-use Rattle.std.specs.Prelude.{◌≡◌, ℕ, ◌+◌, ◌==◌, List, [], ◌∷◌, ◌++◌, length, drop, false, IsTrue, Ok, Err, Result, IsUtf8}
+use Rattle.std.specs.Prelude.{◌≡◌, ◌≤◌, All, ℕ, ◌+◌, ◌==◌, List, [], ◌∷◌, ◌++◌, length, drop, false, IsTrue, Ok, Err, Result, IsUtf8}
 use Rattle.std.specs.List.{AllByRecursion}
 use Rattle.std.specs.Str.Lossy.{utf8_valid_len}
 use Rattle.paje_lex.specs.declared.line.Token.{Token}
 use Rattle.paje_lex.specs.declared.line.LexFault.{LexFault}
 use Rattle.paje_lex.specs.declared.line.LexFault.TheVariants.{NotText, OpenQuote, Memory}
 use Rattle.paje_lex.specs.LineKinds.{is_blank, tokens_start}
-use Rattle.paje_lex.specs.LineReading.{token}
+
+-- what a line gives: its tokens, or what is wrong with it
+abbrev pub Answer : Type 0
+Answer = Result (List Token) LexFault
+
+abbrev pub token : ℕ → ℕ → Token
+token from to = record { from = from; to = to }
 
 -- a blank, the bytes between two quotes, or the bytes of a token without quotes
 pub data Piece : Type 0 where
@@ -80,7 +86,7 @@ abbrev pub body_of_line : List ℕ → List ℕ
 body_of_line line = drop (tokens_start line) line
 
 -- A line has these tokens, or this is wrong with it. Nothing wrong with a line is want of memory.
-abbrev pub Lexes : List ℕ → Result (List Token) LexFault → Type 0
+abbrev pub Lexes : List ℕ → Answer → Type 0
 Lexes line (Ok tokens) = IsUtf8 line × (ps : List Piece) × IsCut (body_of_line line) ps × (tokens ≡ tokens_from (tokens_start line) ps)
 Lexes line (Err (NotText at)) = ¬ (IsUtf8 line) × (at ≡ utf8_valid_len line)
 Lexes line (Err (OpenQuote at)) = IsUtf8 line × (ps : List Piece) × (rest : List ℕ) × IsOpen (body_of_line line) ps rest × (at ≡ tokens_start line + length (pieces_text ps))
@@ -92,3 +98,14 @@ LexesUnlessMemory line (Ok tokens) = Lexes line (Ok tokens)
 LexesUnlessMemory line (Err (NotText at)) = Lexes line (Err (NotText at))
 LexesUnlessMemory line (Err (OpenQuote at)) = Lexes line (Err (OpenQuote at))
 LexesUnlessMemory line (Err Memory) = Unit {0}
+
+-- the result is this, unless memory ran out
+abbrev pub UnlessMemory : Result (List Token) LexFault → Result (List Token) LexFault → Type 0
+UnlessMemory (Ok tokens) wanted = wanted ≡ Ok tokens
+UnlessMemory (Err Memory) wanted = Unit {0}
+UnlessMemory (Err (NotText at)) wanted = wanted ≡ Err (NotText at)
+UnlessMemory (Err (OpenQuote at)) wanted = wanted ≡ Err (OpenQuote at)
+
+-- the tokens stand in a line of this length
+abbrev pub StandIn : ℕ → List Token → Type 0
+StandIn len tokens = All (λ t. (t.from ≤ t.to) × (t.to ≤ len)) tokens

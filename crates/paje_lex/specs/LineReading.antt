@@ -1,4 +1,4 @@
--- The tokens of a line, as a function that computes.
+-- How the code reads the tokens of a line, a byte at a time.
 use Rattle.std.specs.Prelude.{◌≡◌, ◌≤◌, All, ℕ, ◌+◌, ◌<◌, ◌==◌, List, [], ◌∷◌, ◌++◌, drop, Option, Some, None, Ok, Err, Result, if◌then◌else◌}
 use Rattle.std.specs.Option.{option_to_list}
 use Rattle.std.specs.Str.{is_utf8}
@@ -9,13 +9,7 @@ use Rattle.paje_lex.specs.declared.line.LexFault.TheVariants.{NotText, OpenQuote
 use Rattle.paje_lex.specs.declared.line.State.{State}
 use Rattle.paje_lex.specs.declared.line.State.TheVariants.{Between, Plain, Quoted}
 use Rattle.paje_lex.specs.LineKinds.{is_blank, tokens_start}
-
--- what a line gives: its tokens, or what is wrong with it
-abbrev pub Answer : Type 0
-Answer = Result (List Token) LexFault
-
-abbrev pub token : ℕ → ℕ → Token
-token from to = record { from = from; to = to }
+use Rattle.paje_lex.specs.LineGrammar.{token}
 
 -- what a byte begins where no token is open
 abbrev pub starting : ℕ → ℕ → State
@@ -51,19 +45,8 @@ scanned line = scan Between (tokens_start line) (drop (tokens_start line) line)
 abbrev pub lexed : List ℕ → Result (List Token) LexFault
 lexed line = if is_utf8 line then scanned line else Err (NotText (utf8_valid_len line))
 
--- the result is this, unless memory ran out
-abbrev pub UnlessMemory : Result (List Token) LexFault → Result (List Token) LexFault → Type 0
-UnlessMemory (Ok tokens) wanted = wanted ≡ Ok tokens
-UnlessMemory (Err Memory) wanted = Unit {0}
-UnlessMemory (Err (NotText at)) wanted = wanted ≡ Err (NotText at)
-UnlessMemory (Err (OpenQuote at)) wanted = wanted ≡ Err (OpenQuote at)
-
 -- what stands open began before a place
 abbrev pub IsBefore : State → ℕ → Type 0
 IsBefore Between at = Unit {0}
 IsBefore (Plain from) at = from < at
 IsBefore (Quoted quote) at = quote < at
-
--- the tokens stand in a line of this length
-abbrev pub StandIn : ℕ → List Token → Type 0
-StandIn len tokens = All (λ t. (t.from ≤ t.to) × (t.to ≤ len)) tokens

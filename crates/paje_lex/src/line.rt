@@ -1,8 +1,8 @@
 ghost use Rattle.std.specs.Prelude.{◌≡◌, ◌+◌, ◌<◌, ◌≤◌, ◌^◌, length, drop, ◌++◌, IfOk, Ok, Err};
 ghost use Rattle.std.specs.List.{prefix_len};
 ghost use Rattle.paje_lex.specs.LineKinds.{is_blank, is_skipped_line, is_definition_line, tokens_start};
-ghost use Rattle.paje_lex.specs.LineGrammar.{Lexes, LexesUnlessMemory};
-ghost use Rattle.paje_lex.specs.LineReading.{Answer, starting, step, joined, scan, scanned, lexed, ending, UnlessMemory, IsBefore, StandIn};
+ghost use Rattle.paje_lex.specs.LineGrammar.{Answer, Lexes, LexesUnlessMemory, StandIn, UnlessMemory};
+ghost use Rattle.paje_lex.specs.LineReading.{starting, step, joined, scan, lexed, ending, IsBefore};
 
 use std::alloc::Global;
 use thiserror::Error;
@@ -198,7 +198,6 @@ pub fn tokens(alloc: Global, line: &[u8]) -> Result<Seq<Token>, LexFault>
     ensures found { LexesUnlessMemory line.now result }
     // What is so by the grammar is told, unless memory runs out.
     ensures only { (wanted : Answer) → Lexes line.now wanted → UnlessMemory result wanted }
-    ensures exact { UnlessMemory result (lexed line.now) }
     ensures within { IfOk result (StandIn (length line.now)) }
 {
     read_tokens(alloc, line)

@@ -3,7 +3,7 @@
 ghost use Rattle.std.specs.Prelude.{◌≡◌, [], ◌∷◌, ◌++◌, map, codes, replicate, true, false, Ok, Err};
 ghost use Rattle.paje_lex.specs.DateReading.{date_of};
 ghost use Rattle.paje_lex.specs.LineKinds.{is_skipped_line, is_definition_line};
-ghost use Rattle.paje_lex.specs.LineReading.{lexed, token};
+ghost use Rattle.paje_lex.specs.LineGrammar.{Lexes, token};
 
 use crate::dates::DateFault;
 use crate::line::LexFault;
@@ -26,16 +26,22 @@ pub fn date_rows()
 
 /// Lines and where their tokens stand.
 pub fn token_rows()
-    ensures spaced { map lexed (codes "4 0.1\tS  p0 " ∷ codes " \t%EventDef X 4" ∷ codes "% Time date" ∷ codes "%" ∷ codes "5 %a" ∷ [])
-        ≡ Ok (token 0 1 ∷ token 2 5 ∷ token 6 7 ∷ token 9 11 ∷ []) ∷ Ok (token 3 11 ∷ token 12 13 ∷ token 14 15 ∷ [])
-        ∷ Ok (token 2 6 ∷ token 7 11 ∷ []) ∷ Ok [] ∷ Ok (token 0 1 ∷ token 2 4 ∷ []) ∷ [] }
-    ensures quoted { map lexed (codes "2 \"rank 0\" x" ∷ codes "\"\"\"\"" ∷ codes "\"a\"b\"c\"" ∷ codes "a\"b c" ∷ codes "a\r b" ∷ [])
-        ≡ Ok (token 0 1 ∷ token 3 9 ∷ token 11 12 ∷ []) ∷ Ok (token 1 1 ∷ token 3 3 ∷ []) ∷ Ok (token 1 2 ∷ token 3 7 ∷ [])
-        ∷ Ok (token 0 3 ∷ token 4 5 ∷ []) ∷ Ok (token 0 2 ∷ token 3 4 ∷ []) ∷ [] }
-    ensures open { map lexed (codes "a \"b" ∷ codes "\"a\"\" b" ∷ codes "%\"" ∷ [])
-        ≡ Err (LexFault.OpenQuote 2) ∷ Err (LexFault.OpenQuote 3) ∷ Err (LexFault.OpenQuote 1) ∷ [] }
-    ensures text { map lexed ((97 ∷ 195 ∷ 169 ∷ []) ∷ (97 ∷ 255 ∷ 34 ∷ []) ∷ (195 ∷ 169 ∷ 195 ∷ []) ∷ [])
-        ≡ Ok (token 0 3 ∷ []) ∷ Err (LexFault.NotText 1) ∷ Err (LexFault.NotText 2) ∷ [] }
+    ensures spaced { Lexes (codes "4 0.1\tS  p0 ") (Ok (token 0 1 ∷ token 2 5 ∷ token 6 7 ∷ token 9 11 ∷ [])) }
+    ensures definition { Lexes (codes " \t%EventDef X 4") (Ok (token 3 11 ∷ token 12 13 ∷ token 14 15 ∷ [])) }
+    ensures field { Lexes (codes "% Time date") (Ok (token 2 6 ∷ token 7 11 ∷ [])) }
+    ensures none { Lexes (codes "%") (Ok []) }
+    ensures percent { Lexes (codes "5 %a") (Ok (token 0 1 ∷ token 2 4 ∷ [])) }
+    ensures quoted { Lexes (codes "2 \"rank 0\" x") (Ok (token 0 1 ∷ token 3 9 ∷ token 11 12 ∷ [])) }
+    ensures empty { Lexes (codes "\"\"\"\"") (Ok (token 1 1 ∷ token 3 3 ∷ [])) }
+    ensures joined { Lexes (codes "\"a\"b\"c\"") (Ok (token 1 2 ∷ token 3 7 ∷ [])) }
+    ensures inside { Lexes (codes "a\"b c") (Ok (token 0 3 ∷ token 4 5 ∷ [])) }
+    ensures return_ { Lexes (codes "a\r b") (Ok (token 0 2 ∷ token 3 4 ∷ [])) }
+    ensures open_ { Lexes (codes "a \"b") (Err (LexFault.OpenQuote 2)) }
+    ensures open_later { Lexes (codes "\"a\"\" b") (Err (LexFault.OpenQuote 3)) }
+    ensures open_definition { Lexes (codes "%\"") (Err (LexFault.OpenQuote 1)) }
+    ensures text { Lexes (97 ∷ 195 ∷ 169 ∷ []) (Ok (token 0 3 ∷ [])) }
+    ensures not_text { Lexes (97 ∷ 255 ∷ 34 ∷ []) (Err (LexFault.NotText 1)) }
+    ensures text_cut { Lexes (195 ∷ 169 ∷ 195 ∷ []) (Err (LexFault.NotText 2)) }
 {}
 
 /// Which lines are skipped, and which define something.
