@@ -4,7 +4,7 @@ ghost use Rattle.std.specs.Prelude.{◌≡◌, [], ◌∷◌, ◌++◌, map, cod
 ghost use Rattle.paje_defs.specs.Names.{all_events};
 ghost use Rattle.paje_defs.specs.Places.{missing, place_of};
 ghost use Rattle.paje_defs.specs.Numbers.{size_of, event_number_of};
-ghost use Rattle.paje_defs.specs.Texts.{defined, definitions_in, field_as, event_definitions, told_of};
+ghost use Rattle.paje_defs.specs.Texts.{defined, definitions_in, field_as, event_definitions, refused_line, told_of};
 
 use crate::event::EventFault;
 use crate::names::{EventName, FieldName, FieldType, Role};
@@ -120,6 +120,22 @@ pub fn order_rows()
     ensures name_before_number { (definitions_in (codes "%EventDef PajeNewEvent 1" ∷ codes "% Time date" ∷ codes "%EndEventDef" ∷ codes "%EventDef PajeStrange 1" ∷ [])).fault ≡ Some DefFault.UnknownName }
     ensures outside_before_type { (definitions_in (codes "% Time time" ∷ [])).fault ≡ Some DefFault.Shape }
     ensures first_missing { (definitions_in (codes "%EventDef PajePushState 1" ∷ codes "% Value string" ∷ codes "%EndEventDef" ∷ [])).fault ≡ Some (DefFault.MissingField Role.Time) }
+{}
+
+/// Which line is refused first, and that the lines behind it add nothing.
+pub fn first_refused_rows()
+    ensures none { refused_line event_definitions ≡ None }
+    ensures first { refused_line (codes "%EventDef PajeNewEvent 1" ∷ codes "% Time strange" ∷ codes "%EventDef PajeStrange 2" ∷ []) ≡ Some 2 }
+    ensures behind { definitions_in (codes "%EventDef PajeNewEvent 1" ∷ codes "% Time date" ∷ codes "%EndEventDef" ∷ codes "%" ∷ codes "%EventDef PajeNewEvent 2" ∷ codes "% Time date" ∷ codes "%EndEventDef" ∷ []) ≡ record {
+      complete = defined 1 1 EventName.NewEvent (field_as FieldName.Time FieldType.Date ∷ []) ∷ [];
+      begun = None;
+      fault = Some DefFault.Shape;
+    } }
+    ensures inside { definitions_in (codes "%EventDef PajeNewEvent 1" ∷ codes "% Time strange" ∷ codes "%EndEventDef" ∷ []) ≡ record {
+      complete = [];
+      begun = Some (record { number = 1; definition = record { line = 1; event = EventName.NewEvent; fields = [] } });
+      fault = Some DefFault.UnknownType;
+    } }
 {}
 
 /// A definition that is begun and not ended, and tokens that are dropped.
