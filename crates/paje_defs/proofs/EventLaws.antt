@@ -7,17 +7,18 @@ use Rattle.std.specs.Result.{is_ok, result_unwrap_or, IfOk}
 use Rattle.std.proofs.lemmas.Bool.{true≢false, ltb-true}
 use Rattle.std.proofs.lemmas.Option.{slice_get-get_or}
 use Rattle.paje_lex.specs.declared.dates.DateFault.{DateFault}
-use Rattle.paje_defs.specs.declared.names.Role.{Role}
-use Rattle.paje_defs.specs.declared.names.Role.TheVariants as roles
-use Rattle.paje_defs.specs.declared.names.FieldName.{FieldName}
-use Rattle.paje_defs.specs.declared.names.EventName.{EventName}
-use Rattle.paje_defs.specs.declared.fields.Field.{Field}
-use Rattle.paje_defs.specs.declared.table.Definition.{Definition}
-use Rattle.paje_defs.specs.declared.event.EventFault.{EventFault}
-use Rattle.paje_defs.specs.declared.event.EventFault.TheVariants as faults
-use Rattle.paje_defs.specs.declared.event.Fields.{Fields}
-use Rattle.paje_defs.specs.Places.{is_named, first_name, second_name, needed, place_of, place_of_name, place_or}
-use Rattle.paje_defs.specs.Lines.{IsWhole, definition_of}
+use Rattle.paje_defs.specs.declared.role.Role.{Role}
+use Rattle.paje_defs.specs.declared.role.Role.TheVariants as roles
+use Rattle.paje_defs.specs.declared.field_name.FieldName.{FieldName}
+use Rattle.paje_defs.specs.declared.event_name.EventName.{EventName}
+use Rattle.paje_defs.specs.declared.field.Field.{Field}
+use Rattle.paje_defs.specs.declared.definition.Definition.{Definition}
+use Rattle.paje_defs.specs.declared.event_fault.EventFault.{EventFault}
+use Rattle.paje_defs.specs.declared.event_fault.EventFault.TheVariants as faults
+use Rattle.paje_defs.specs.declared.fields.Fields.{Fields}
+use Rattle.paje_defs.specs.Definition.{IsWhole, is_named, place_of, place_of_name, place_or}
+use Rattle.paje_defs.specs.Role.{first_name, needed, second_name}
+use Rattle.paje_defs.specs.Lines.{definition_of}
 use Rattle.paje_defs.specs.Events.{Event, HasNeeded, RolesStand, Tells, event_numbered, event_of, event_under, number_in, role_text, text_at, text_of, time_of_text, timed}
 
 -- ---- where a field stands

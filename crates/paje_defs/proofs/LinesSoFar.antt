@@ -1,19 +1,19 @@
 -- A table that tells what its lines so far make known has taken one more.
-use Rattle.std.proofs.Common.{◌≡◌, ℕ, inl, inr, List, [], ◌∷◌, ◌++◌, Bool, true, false, Option, Some, None, Result, Ok, Err, IfSome, MatchOption, MatchResult, cond, is_none, is_some, slice_get, nat_eq, refl, sym, ◌∙◌, ap, subst}
+use Rattle.std.proofs.Common.{◌≡◌, ℕ, inl, inr, List, [], ◌∷◌, ◌++◌, Bool, true, false, Option, Some, None, Result, Ok, Err, IfSome, cond, is_none, is_some, slice_get, nat_eq, refl, sym, ◌∙◌, ap, subst}
 use Rattle.std.specs.List.{find}
 use Rattle.std.specs.Option.{option_and_then, option_map, option_map_or, option_or, option_to_list}
 use Rattle.std.proofs.lemmas.Bool.{true≢false}
 use Rattle.std.proofs.lemmas.List.{append-nil}
 use Rattle.std.proofs.lemmas.List.Folds.{find-append}
 use Rattle.indexmap.proofs.MapLemmas.{absent_from_lookup, insert_entry-absent}
-use Rattle.paje_defs.specs.declared.names.Role.{Role}
-use Rattle.paje_defs.specs.declared.table.Definition.{Definition}
-use Rattle.paje_defs.specs.declared.table.Begun.{Begun}
-use Rattle.paje_defs.specs.declared.table.DefFault.{DefFault}
-use Rattle.paje_defs.specs.declared.table.DefFault.TheVariants.{Shape, Nested, UnknownName, DoubleNumber, UnknownType, MissingField, Memory}
-use Rattle.paje_defs.specs.Places.{missing}
-use Rattle.paje_defs.specs.Lines.{Definitions, Line, Placed, begin_reason, begins, begun_in, complete_in, defined_by, defined_event, defined_number, definitions_of_lines, end_reason, ended_at, ends, entry_of, field_of, field_reason, field_type, first_line, first_of, first_refused, placed, reason, reason_at, refusal, taken, when}
-use Rattle.paje_defs.specs.Table.{Steps, TakesNext, after, after_begin, after_end, after_field, grown, with_ended}
+use Rattle.paje_defs.specs.declared.role.Role.{Role}
+use Rattle.paje_defs.specs.declared.definition.Definition.{Definition}
+use Rattle.paje_defs.specs.declared.begun.Begun.{Begun}
+use Rattle.paje_defs.specs.declared.def_fault.DefFault.{DefFault}
+use Rattle.paje_defs.specs.declared.def_fault.DefFault.TheVariants.{Shape, Nested, UnknownName, DoubleNumber, UnknownType, MissingField, Memory}
+use Rattle.paje_defs.specs.Definition.{missing}
+use Rattle.paje_defs.specs.Lines.{Definitions, Line, Placed, begin_reason, begins, begun_in, complete_in, defined_by, defined_event, defined_number, definitions_of_lines, end_reason, ends, entry_of, field_of, field_reason, field_type, first_line, first_of, first_refused, placed, reason, reason_at, refusal, taken, when}
+use Rattle.paje_defs.specs.Table.{Steps, after, grown, with_ended}
 use Rattle.paje_defs.proofs.OneMoreLine.{begun-more, begun_after, complete-more, placed-more}
 use Rattle.paje_defs.proofs.TakenLines.{IsFresh, Lacks, is_refused, not_both, taken_fresh}
 

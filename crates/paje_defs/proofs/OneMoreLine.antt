@@ -1,15 +1,13 @@
 -- What is begun and what is complete, after one more line.
-use Rattle.std.proofs.Common.{◌≡◌, ℕ, ◌+◌, ◌-◌, ◌≤◌, List, [], ◌∷◌, ◌++◌, ◌||◌, length, drop, filter, filter_map, Bool, true, false, not, Option, Some, None, cond, refl, sym, ◌∙◌, ap, arith}
+use Rattle.std.proofs.Common.{◌≡◌, ℕ, ◌+◌, ◌-◌, List, [], ◌∷◌, ◌++◌, ◌||◌, length, drop, filter, filter_map, Bool, true, false, not, Option, Some, None, cond, refl, sym, ◌∙◌, ap, arith}
 use Rattle.std.specs.List.{after_last, cons_option, last_or, prefix_len, suffix_len}
 use Rattle.std.specs.Option.{option_and_then, option_map, option_to_list, option_zip}
 use Rattle.std.proofs.lemmas.List.{append-nil, append_assoc, drop-append-le, drop_all, length-append, reverse-append}
 use Rattle.std.proofs.lemmas.List.Elements.{filter-append, filter_map-append}
-use Rattle.std.proofs.lemmas.List.Sums.{suffix_len-le-length}
-use Rattle.paje_defs.specs.declared.names.EventName.{EventName}
-use Rattle.paje_defs.specs.declared.fields.Field.{Field}
-use Rattle.paje_defs.specs.declared.table.Definition.{Definition}
-use Rattle.paje_defs.specs.declared.table.Begun.{Begun}
-use Rattle.paje_defs.specs.Lines.{Line, Placed, begins, begun_by, begun_in, borders, complete_in, defined_by, defined_event, defined_number, ended_at, ends, field_of, placed, placed_behind}
+use Rattle.paje_defs.specs.declared.event_name.EventName.{EventName}
+use Rattle.paje_defs.specs.declared.field.Field.{Field}
+use Rattle.paje_defs.specs.declared.begun.Begun.{Begun}
+use Rattle.paje_defs.specs.Lines.{Line, begins, begun_by, begun_in, borders, complete_in, defined_by, defined_event, defined_number, ended_at, ends, field_of, placed, placed_behind}
 use Rattle.paje_defs.specs.Table.{grown}
 
 -- ---- lists
@@ -17,14 +15,14 @@ use Rattle.paje_defs.specs.Table.{grown}
 after_last-kept : {X : Type 0} (p : X → Bool) (xs : List X) (x : X) → p x ≡ true → after_last p (xs ++ x ∷ []) ≡ []
 after_last-kept p xs x passes =
     let none : suffix_len (λ y. not (p y)) (xs ++ x ∷ []) ≡ 0 =
-        ap (prefix_len (λ y. not (p y))) (reverse-append xs (x ∷ [])) ∙ ap (λ b. cond (not b) (1 + suffix_len (λ y. not (p y)) xs) 0) passes in
+    ap (prefix_len (λ y. not (p y))) (reverse-append xs (x ∷ [])) ∙ ap (λ b. cond (not b) (1 + suffix_len (λ y. not (p y)) xs) 0) passes in
     drop_all (length (xs ++ x ∷ []) - suffix_len (λ y. not (p y)) (xs ++ x ∷ [])) (xs ++ x ∷ []) (omega (arith, none))
 
 after_last-more : {X : Type 0} (p : X → Bool) (xs : List X) (x : X) → p x ≡ false → after_last p (xs ++ x ∷ []) ≡ after_last p xs ++ x ∷ []
 after_last-more p xs x fails =
     let tail = suffix_len (λ y. not (p y)) xs in
     let one : suffix_len (λ y. not (p y)) (xs ++ x ∷ []) ≡ 1 + tail =
-        ap (prefix_len (λ y. not (p y))) (reverse-append xs (x ∷ [])) ∙ ap (λ b. cond (not b) (1 + tail) 0) fails in
+    ap (prefix_len (λ y. not (p y))) (reverse-append xs (x ∷ [])) ∙ ap (λ b. cond (not b) (1 + tail) 0) fails in
     let count : length (xs ++ x ∷ []) ≡ length xs + 1 = length-append xs (x ∷ []) in
     let at : length (xs ++ x ∷ []) - suffix_len (λ y. not (p y)) (xs ++ x ∷ []) ≡ length xs - tail = omega (arith, one, count) in
     ap (λ n. drop n (xs ++ x ∷ [])) at ∙ drop-append-le (length xs - tail) xs (x ∷ []) (omega arith)
@@ -77,8 +75,8 @@ begun-field : (lines : List Line) (line : Line) → borders line ≡ false → b
 begun-field lines line inner =
     let behind = after_last borders lines in
     let fields : fields_in (after_last borders (lines ++ line ∷ [])) ≡ fields_in behind ++ option_to_list (field_of line.words) =
-        ap fields_in (after_last-more borders lines line inner)
-        ∙ (filter_map-append (λ line. field_of line.words) behind (line ∷ []) ∙ ap (λ more. fields_in behind ++ more) (one_or_none (field_of line.words))) in
+    ap fields_in (after_last-more borders lines line inner)
+    ∙ (filter_map-append (λ line. field_of line.words) behind (line ∷ []) ∙ ap (λ more. fields_in behind ++ more) (one_or_none (field_of line.words))) in
     ap (λ last. option_and_then (begun_by (fields_in (after_last borders (lines ++ line ∷ [])))) last) (last-more borders lines line inner)
     ∙ (ap (λ fields. option_and_then (begun_by fields) (last_or None (filter borders lines))) fields
     ∙ more_fields_of (fields_in behind) (option_to_list (field_of line.words)) (last_or None (filter borders lines)))

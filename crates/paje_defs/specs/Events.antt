@@ -4,20 +4,21 @@ use Rattle.std.specs.List.{AllByRecursion}
 use Rattle.std.specs.Option.{option_copied, IsSome}
 use Rattle.paje_lex.specs.declared.dates.DateFault.{DateFault}
 use Rattle.paje_lex.specs.DateReading.{date_of}
-use Rattle.paje_defs.specs.declared.names.EventName.{EventName}
-use Rattle.paje_defs.specs.declared.names.EventName.TheVariants as events
-use Rattle.paje_defs.specs.declared.names.FieldType.{FieldType}
-use Rattle.paje_defs.specs.declared.names.FieldType.TheVariants as types
-use Rattle.paje_defs.specs.declared.names.Role.{Role}
-use Rattle.paje_defs.specs.declared.names.Role.TheVariants as roles
-use Rattle.paje_defs.specs.declared.fields.Field.{Field}
-use Rattle.paje_defs.specs.declared.table.Definition.{Definition}
-use Rattle.paje_defs.specs.declared.event.EventFault.{EventFault}
-use Rattle.paje_defs.specs.declared.event.EventFault.TheVariants as faults
-use Rattle.paje_defs.specs.declared.event.Texts.{Texts}
-use Rattle.paje_defs.specs.declared.event.Fields.{Fields}
+use Rattle.paje_defs.specs.declared.event_name.EventName.{EventName}
+use Rattle.paje_defs.specs.declared.event_name.EventName.TheVariants as events
+use Rattle.paje_defs.specs.declared.field_type.FieldType.{FieldType}
+use Rattle.paje_defs.specs.declared.field_type.FieldType.TheVariants as types
+use Rattle.paje_defs.specs.declared.role.Role.{Role}
+use Rattle.paje_defs.specs.declared.role.Role.TheVariants as roles
+use Rattle.paje_defs.specs.declared.field.Field.{Field}
+use Rattle.paje_defs.specs.declared.definition.Definition.{Definition}
+use Rattle.paje_defs.specs.declared.event_fault.EventFault.{EventFault}
+use Rattle.paje_defs.specs.declared.event_fault.EventFault.TheVariants as faults
+use Rattle.paje_defs.specs.declared.texts.Texts.{Texts}
+use Rattle.paje_defs.specs.declared.fields.Fields.{Fields}
 use Rattle.paje_defs.specs.Numbers.{event_number_of, size_of}
-use Rattle.paje_defs.specs.Places.{needed, place_of}
+use Rattle.paje_defs.specs.Definition.{place_of}
+use Rattle.paje_defs.specs.Role.{needed}
 use Rattle.paje_defs.specs.Lines.{definition_of}
 
 -- the text of the field at a place: the first token is the number

@@ -1,7 +1,11 @@
+pub mod Definition
+pub mod EventName
 pub mod Events
+pub mod FieldName
+pub mod FieldType
 pub mod Lines
-pub mod Names
 pub mod Numbers
-pub mod Places
+pub mod Role
+pub mod Rows
 pub mod Table
-pub mod Texts
+pub mod Words

@@ -1,21 +1,23 @@
 -- What the definition lines of a trace make known: facts of the list of its lines, each found in the whole list.
-use Rattle.std.specs.Prelude.{◌≡◌, ℕ, ◌||◌, List, [], ◌∷◌, ◌++◌, codes, filter, filter_map, slice_get, nat_eq, Bool, false, Option, Some, None, is_some, is_none, if◌then◌else◌}
+use Rattle.std.specs.Prelude.{ℕ, ◌||◌, List, [], ◌∷◌, ◌++◌, codes, filter, filter_map, slice_get, nat_eq, Bool, false, Option, Some, None, is_some, is_none, if◌then◌else◌}
 use Rattle.std.specs.List.{after_last, find, last_or}
 use Rattle.std.specs.Map.{lookup}
 use Rattle.std.specs.Option.{option_and_then, option_map, option_map_or, option_zip}
 use Rattle.std.specs.Str.{bytes_eq}
-use Rattle.paje_defs.specs.declared.names.EventName.{EventName}
-use Rattle.paje_defs.specs.declared.names.FieldName.{FieldName}
-use Rattle.paje_defs.specs.declared.names.FieldName.TheVariants.{Other}
-use Rattle.paje_defs.specs.declared.names.FieldType.{FieldType}
-use Rattle.paje_defs.specs.declared.fields.Field.{Field}
-use Rattle.paje_defs.specs.declared.table.Definition.{Definition}
-use Rattle.paje_defs.specs.declared.table.Begun.{Begun}
-use Rattle.paje_defs.specs.declared.table.DefFault.{DefFault}
-use Rattle.paje_defs.specs.declared.table.DefFault.TheVariants.{Shape, Nested, UnknownName, DoubleNumber, UnknownType, MissingField}
-use Rattle.paje_defs.specs.Names.{event_name_of, field_name_of, type_of}
+use Rattle.paje_defs.specs.declared.event_name.EventName.{EventName}
+use Rattle.paje_defs.specs.declared.field_name.FieldName.{FieldName}
+use Rattle.paje_defs.specs.declared.field_name.FieldName.TheVariants.{Other}
+use Rattle.paje_defs.specs.declared.field_type.FieldType.{FieldType}
+use Rattle.paje_defs.specs.declared.field.Field.{Field}
+use Rattle.paje_defs.specs.declared.definition.Definition.{Definition}
+use Rattle.paje_defs.specs.declared.begun.Begun.{Begun}
+use Rattle.paje_defs.specs.declared.def_fault.DefFault.{DefFault}
+use Rattle.paje_defs.specs.declared.def_fault.DefFault.TheVariants.{Shape, Nested, UnknownName, DoubleNumber, UnknownType, MissingField}
+use Rattle.paje_defs.specs.EventName.{event_name_of}
+use Rattle.paje_defs.specs.FieldName.{field_name_of}
+use Rattle.paje_defs.specs.FieldType.{type_of}
 use Rattle.paje_defs.specs.Numbers.{event_number_of}
-use Rattle.paje_defs.specs.Places.{missing}
+use Rattle.paje_defs.specs.Definition.{missing}
 
 -- a definition line: its number in the text, and its words behind the %
 pub record Line : Type 0 where
@@ -166,7 +168,3 @@ pub record Definitions : Type 0 where
 -- A refused line adds nothing, nor does any behind it.
 abbrev pub definitions_of_lines : List Line → Definitions
 definitions_of_lines lines = record { complete = complete_in (taken lines); begun = begun_in (taken lines); fault = refusal lines }
-
--- each role that its event needs has a field
-abbrev pub IsWhole : Definition → Type 0
-IsWhole d = missing d.event d.fields ≡ None

@@ -1,22 +1,17 @@
 -- What a table of definitions tells, and what a line does to it.
-use Rattle.std.specs.Prelude.{◌≡◌, ℕ, ◌⊎◌, List, [], ◌∷◌, ◌++◌, map, slice_range, nat_eq, Option, Some, None, Ok, Err, Result, MatchResult, if◌then◌else◌}
+use Rattle.std.specs.Prelude.{◌≡◌, ℕ, ◌⊎◌, List, [], ◌∷◌, ◌++◌, nat_eq, Option, Some, None, Result, MatchResult, if◌then◌else◌}
 use Rattle.std.specs.Option.{option_map, option_to_list}
 use Rattle.indexmap.specs.IndexMap.{insert_entry}
-use Rattle.paje_lex.specs.declared.line.Token.{Token}
-use Rattle.paje_defs.specs.declared.fields.Field.{Field}
-use Rattle.paje_defs.specs.declared.table.Definition.{Definition}
-use Rattle.paje_defs.specs.declared.table.Begun.{Begun}
+use Rattle.paje_defs.specs.declared.field.Field.{Field}
+use Rattle.paje_defs.specs.declared.definition.Definition.{Definition}
+use Rattle.paje_defs.specs.declared.begun.Begun.{Begun}
 use Rattle.paje_defs.specs.declared.table.DefTable.{DefTable}
-use Rattle.paje_defs.specs.declared.table.DefFault.{DefFault}
-use Rattle.paje_defs.specs.declared.table.DefFault.TheVariants.{Memory}
+use Rattle.paje_defs.specs.declared.def_fault.DefFault.{DefFault}
+use Rattle.paje_defs.specs.declared.def_fault.DefFault.TheVariants.{Memory}
 use Rattle.paje_defs.specs.Lines.{Definitions, Line, begins, defined_by, definitions_of_lines, ends, field_of, refusal}
 
--- the bytes of the tokens of a line
-abbrev pub words_of : List ℕ → List Token → List (List ℕ)
-words_of line tokens = map (λ t. slice_range line t.from t.to) tokens
-
-abbrev pub line_of : ℕ → List ℕ → List Token → Line
-line_of n line tokens = record { number = n; words = words_of line tokens }
+abbrev pub line_of : ℕ → List (List ℕ) → Line
+line_of n words = record { number = n; words = words }
 
 abbrev pub definitions_of : DefTable → Definitions
 definitions_of t = record { complete = t.complete.entries; begun = t.begun; fault = t.fault }
@@ -27,7 +22,7 @@ abbrev pub TakesNext : {U : Type 0} → List Line → Line → Definitions → R
 TakesNext before line new r = MatchResult r
     (λ _. (new ≡ definitions_of_lines (before ++ line ∷ [])) × (new.fault ≡ None))
     (λ f. ((f ≡ Memory) × (refusal (before ++ line ∷ []) ≡ None) × (new ≡ definitions_of_lines before))
-        ⊎ ((new ≡ definitions_of_lines (before ++ line ∷ [])) × (new.fault ≡ Some f)))
+    ⊎ ((new ≡ definitions_of_lines (before ++ line ∷ [])) × (new.fault ≡ Some f)))
 
 -- ---- what a call of its own does
 

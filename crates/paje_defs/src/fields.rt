@@ -1,113 +1,47 @@
-ghost use Rattle.std.specs.Prelude.{◌≡◌, ◌<◌, position, length, IfSome};
-ghost use Rattle.paje_defs.specs.Places.{is_named, first_name, second_name, place_of_name, place_of, needed, missing};
+ghost use Rattle.std.specs.Prelude.{◌≡◌};
+ghost use Rattle.std.specs.Option.{option_copied};
+ghost use Rattle.paje_defs.specs.Events.{text_of};
 
-use crate::names::{EventName, FieldName, FieldType, Role};
+use crate::event_name::EventName;
+use crate::role::Role;
+use crate::texts::Texts;
 
-/// A field of a definition.
-#[derive(Clone, Copy, Debug, PartialEq, Eq)]
-pub struct Field {
-    pub name: FieldName,
-    pub kind: FieldType,
+/// What an event line tells.
+#[derive(Clone, Copy, Debug)]
+pub struct Fields<'a> {
+    pub(crate) kind: EventName,
+    pub(crate) time: u64,
+    pub(crate) size: u64,
+    pub(crate) texts: Texts<'a>,
 }
 
-/// Where the first field of a name stands.
-fn position(fields: &[Field], name: FieldName) -> Option<usize>
-    ensures place { result ≡ position (λ f. is_named name f) fields.now }
-    ensures within { IfSome result (λ at. at < length fields.now) }
-{
-    fields.iter().position(|field| field.name == name)
-}
-
-impl Role {
-    /// The name of a field of this role that is preferred.
-    fn first_name(self) -> FieldName
-        ensures { result ≡ first_name self }
+impl<'a> Fields<'a> {
+    /// The event.
+    pub fn kind(&self) -> EventName
+        ensures { result ≡ self.now.kind }
     {
-        match self {
-            Role::Time => FieldName::Time,
-            Role::Alias => FieldName::Alias,
-            Role::Kind => FieldName::Type,
-            Role::Name => FieldName::Name,
-            Role::Holder => FieldName::Container,
-            Role::Value => FieldName::Value,
-            Role::Key => FieldName::Key,
-            Role::FromKind => FieldName::StartContainerType,
-            Role::ToKind => FieldName::EndContainerType,
-            Role::From => FieldName::StartContainer,
-            Role::To => FieldName::EndContainer,
-            Role::Size => FieldName::Size,
-        }
+        self.kind
     }
 
-    /// The other name of a field of this role in a definition of an event, where there is one.
-    fn second_name(self, event: EventName) -> Option<FieldName>
-        ensures { result ≡ second_name event self }
+    /// Its time in nanoseconds, 0 where its definition has no time.
+    pub fn time(&self) -> u64
+        ensures { result ≡ self.now.time }
     {
-        match (self, event) {
-            (
-                Role::Kind,
-                EventName::DefineContainerType
-                | EventName::DefineStateType
-                | EventName::DefineEventType
-                | EventName::DefineVariableType
-                | EventName::DefineLinkType,
-            ) => Some(FieldName::ContainerType),
-            (Role::Name, EventName::DestroyContainer) => Some(FieldName::Container),
-            (Role::FromKind, _) => Some(FieldName::SourceContainerType),
-            (Role::ToKind, _) => Some(FieldName::DestContainerType),
-            (Role::From, _) => Some(FieldName::SourceContainer),
-            (Role::To, _) => Some(FieldName::DestContainer),
-            _ => None,
-        }
+        self.time
     }
-}
 
-/// Where the field of a role stands in a definition of an event, counted from 0.
-pub fn place(event: EventName, fields: &[Field], role: Role) -> Option<usize>
-    ensures place { result ≡ place_of event fields.now role }
-    ensures within { IfSome result (λ at. at < length fields.now) }
-{
-    match position(fields, role.first_name()) {
-        Some(place) => Some(place),
-        None => match role.second_name(event) {
-            Some(name) => position(fields, name),
-            None => None,
-        },
+    /// The size of a message: 0 where the definition isn't one of a link's start with a `Size` of type int, and where
+    /// that is no number from 0 to 2^63 - 1.
+    pub fn size(&self) -> u64
+        ensures { result ≡ self.now.size }
+    {
+        self.size
     }
-}
 
-/// The roles that an event needs, in order.
-fn needed(event: EventName) -> &'static [Role]
-    ensures { result.now ≡ needed event }
-{
-    match event {
-        EventName::DefineContainerType
-        | EventName::DefineStateType
-        | EventName::DefineEventType
-        | EventName::DefineVariableType
-        | EventName::DefineEntityValue => &[Role::Kind, Role::Name],
-        EventName::DefineLinkType => &[Role::Kind, Role::FromKind, Role::ToKind, Role::Name],
-        EventName::CreateContainer => &[Role::Time, Role::Kind, Role::Holder, Role::Name],
-        EventName::DestroyContainer => &[Role::Time, Role::Name],
-        EventName::PushState | EventName::SetState => {
-            &[Role::Time, Role::Kind, Role::Holder, Role::Value]
-        }
-        EventName::PopState | EventName::ResetState => &[Role::Time, Role::Kind, Role::Holder],
-        EventName::StartLink => &[Role::Time, Role::Kind, Role::From, Role::Key],
-        EventName::EndLink => &[Role::Time, Role::Kind, Role::To, Role::Key],
-        EventName::NewEvent
-        | EventName::SetVariable
-        | EventName::AddVariable
-        | EventName::SubVariable => &[Role::Time],
+    /// The bytes of a role's field in the line, `None` exactly where its definition has no field of the role.
+    pub fn text(&self, role: Role) -> Option<&'a [u8]>
+        ensures { option_copied result ≡ text_of self.now.texts role }
+    {
+        self.texts.get(role)
     }
-}
-
-/// The first role that an event needs and no field has.
-pub fn missing(event: EventName, fields: &[Field]) -> Option<Role>
-    ensures { result ≡ missing event fields.now }
-{
-    needed(event)
-        .iter()
-        .copied()
-        .find(|role| place(event, fields, *role).is_none())
 }

@@ -1,20 +1,35 @@
 //! The definitions of a trace, and what its event lines mean under them.
 #![tactic(auto)]
 
+mod begun;
+mod def_fault;
+mod definition;
 mod event;
+mod event_fault;
+mod event_name;
+mod field;
+mod field_name;
+mod field_type;
 mod fields;
-mod names;
 mod numbers;
+mod role;
 mod rows;
 mod table;
+mod texts;
+mod words;
 
-pub use event::{EventFault, Fields};
-pub use names::{EventName, FieldName, FieldType, Role};
+pub use def_fault::DefFault;
+pub use event_fault::EventFault;
+pub use event_name::EventName;
+pub use field_name::FieldName;
+pub use field_type::FieldType;
+pub use fields::Fields;
+pub use role::Role;
 pub use rows::{
-    begun_rows, definition_rows, event_rows, first_refused_rows, missing_rows, number_rows, order_rows, place_rows,
-    refusal_rows,
+    begun_rows, definition_rows, event_rows, first_refused_rows, missing_rows, number_rows,
+    order_rows, place_rows, refusal_rows,
 };
-pub use table::{DefFault, DefTable};
+pub use table::DefTable;
 
 #[cfg(test)]
 mod tests;

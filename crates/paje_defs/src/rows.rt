@@ -1,14 +1,17 @@
 //! Worked rows: what the definitions give on lines whose meaning is known.
 
 ghost use Rattle.std.specs.Prelude.{◌≡◌, [], ◌∷◌, ◌++◌, map, codes, Some, None, Ok, Err};
-ghost use Rattle.paje_defs.specs.Names.{all_events};
-ghost use Rattle.paje_defs.specs.Places.{missing, place_of};
+ghost use Rattle.paje_defs.specs.EventName.{all_events};
+ghost use Rattle.paje_defs.specs.Definition.{missing, place_of};
 ghost use Rattle.paje_defs.specs.Numbers.{size_of, event_number_of};
-ghost use Rattle.paje_defs.specs.Texts.{defined, definitions_in, field_as, event_definitions, refused_line, told_of};
+ghost use Rattle.paje_defs.specs.Rows.{defined, definitions_in, field_as, event_definitions, refused_line, told_of};
 
-use crate::event::EventFault;
-use crate::names::{EventName, FieldName, FieldType, Role};
-use crate::table::DefFault;
+use crate::def_fault::DefFault;
+use crate::event_fault::EventFault;
+use crate::event_name::EventName;
+use crate::field_name::FieldName;
+use crate::field_type::FieldType;
+use crate::role::Role;
 use paje_lex::DateFault;
 
 /// Six definitions, one after another: none is left open and no line is refused.

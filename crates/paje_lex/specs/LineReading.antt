@@ -1,11 +1,11 @@
 -- How the code reads the tokens of a line, a byte at a time.
-use Rattle.std.specs.Prelude.{◌≡◌, ◌≤◌, All, ℕ, ◌+◌, ◌<◌, ◌==◌, List, [], ◌∷◌, ◌++◌, drop, Option, Some, None, Ok, Err, Result, if◌then◌else◌}
+use Rattle.std.specs.Prelude.{ℕ, ◌+◌, ◌<◌, ◌==◌, List, [], ◌∷◌, ◌++◌, drop, Option, Some, None, Ok, Err, Result, if◌then◌else◌}
 use Rattle.std.specs.Option.{option_to_list}
 use Rattle.std.specs.Str.{is_utf8}
 use Rattle.std.specs.Str.Lossy.{utf8_valid_len}
 use Rattle.paje_lex.specs.declared.line.Token.{Token}
 use Rattle.paje_lex.specs.declared.line.LexFault.{LexFault}
-use Rattle.paje_lex.specs.declared.line.LexFault.TheVariants.{NotText, OpenQuote, Memory}
+use Rattle.paje_lex.specs.declared.line.LexFault.TheVariants.{NotText, OpenQuote}
 use Rattle.paje_lex.specs.declared.line.State.{State}
 use Rattle.paje_lex.specs.declared.line.State.TheVariants.{Between, Plain, Quoted}
 use Rattle.paje_lex.specs.LineKinds.{is_blank, tokens_start}

@@ -1,5 +1,6 @@
 use Rattle.std.proofs.Common.{sym, subst}
-use Rattle.paje_defs.specs.Table.{definitions_of, words_of}
+use Rattle.paje_defs.specs.Words.{words_of}
+use Rattle.paje_defs.specs.Table.{definitions_of}
 use Rattle.paje_defs.proofs.EventLaws.{roles_stand, needed_stand}
 use Rattle.paje_defs.proofs.TakenLines.{AreWhole, complete_whole}
 use Rattle.paje_defs.proofs.table.DefTable.event.Goals as goal

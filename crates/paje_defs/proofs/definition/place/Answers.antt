@@ -1,6 +1,7 @@
 use Rattle.std.proofs.Common.{◌∙◌, ap, position}
-use Rattle.paje_defs.specs.Places.{is_named, second_name, place_of_name, place_or}
-use Rattle.paje_defs.proofs.fields.place.Goals as goal
+use Rattle.paje_defs.specs.Definition.{is_named, place_of_name, place_or}
+use Rattle.paje_defs.specs.Role.{second_name}
+use Rattle.paje_defs.proofs.definition.place.Goals as goal
 
 pub returns-in-Some-second_name-clause-place : goal.returns-in-Some-second_name-clause-place
 returns-in-Some-second_name-clause-place c =

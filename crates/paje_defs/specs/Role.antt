@@ -1,37 +1,11 @@
--- Which field of a definition has which role.
-use Rattle.std.specs.Prelude.{ℕ, ◌==◌, List, [], ◌∷◌, Bool, Option, Some, None, position, is_none}
-use Rattle.std.specs.List.{find}
-use Rattle.paje_defs.specs.declared.names.EventName.{EventName}
-use Rattle.paje_defs.specs.declared.names.EventName.TheVariants as events
-use Rattle.paje_defs.specs.declared.names.FieldName.{FieldName}
-use Rattle.paje_defs.specs.declared.names.FieldName.TheVariants as names
-use Rattle.paje_defs.specs.declared.names.Role.{Role}
-use Rattle.paje_defs.specs.declared.names.Role.TheVariants as roles
-use Rattle.paje_defs.specs.declared.fields.Field.{Field}
-
--- names of fields as numbers, by which they are compared
-abbrev pub name_number : FieldName → ℕ
-name_number names.Time = 0
-name_number names.Alias = 1
-name_number names.Type = 2
-name_number names.ContainerType = 3
-name_number names.Name = 4
-name_number names.Container = 5
-name_number names.Value = 6
-name_number names.Key = 7
-name_number names.StartContainerType = 8
-name_number names.SourceContainerType = 9
-name_number names.EndContainerType = 10
-name_number names.DestContainerType = 11
-name_number names.StartContainer = 12
-name_number names.SourceContainer = 13
-name_number names.EndContainer = 14
-name_number names.DestContainer = 15
-name_number names.Size = 16
-name_number names.Other = 17
-
-abbrev pub is_named : FieldName → Field → Bool
-is_named name f = name_number f.name == name_number name
+-- The names that a role has, and the roles that an event needs.
+use Rattle.std.specs.Prelude.{List, [], ◌∷◌, Option, Some, None}
+use Rattle.paje_defs.specs.declared.event_name.EventName.{EventName}
+use Rattle.paje_defs.specs.declared.event_name.EventName.TheVariants as events
+use Rattle.paje_defs.specs.declared.field_name.FieldName.{FieldName}
+use Rattle.paje_defs.specs.declared.field_name.FieldName.TheVariants as names
+use Rattle.paje_defs.specs.declared.role.Role.{Role}
+use Rattle.paje_defs.specs.declared.role.Role.TheVariants as roles
 
 -- ---- the names that a role has, the one that is preferred first
 
@@ -77,20 +51,6 @@ second_name event roles.Value = None
 second_name event roles.Key = None
 second_name event roles.Size = None
 
--- ---- where the field of a role stands
-
-abbrev pub place_of_name : List Field → Option FieldName → Option ℕ
-place_of_name fields None = None
-place_of_name fields (Some name) = position (is_named name) fields
-
-abbrev pub place_or : Option ℕ → Option ℕ → Option ℕ
-place_or None second = second
-place_or (Some place) second = Some place
-
--- the first field of the first name, else the first field of the second
-abbrev pub place_of : EventName → List Field → Role → Option ℕ
-place_of event fields role = place_or (place_of_name fields (Some (first_name role))) (place_of_name fields (second_name event role))
-
 -- ---- the roles that an event needs, in order
 
 abbrev pub needed : EventName → List Role
@@ -112,7 +72,3 @@ needed events.NewEvent = roles.Time ∷ []
 needed events.SetVariable = roles.Time ∷ []
 needed events.AddVariable = roles.Time ∷ []
 needed events.SubVariable = roles.Time ∷ []
-
--- the first needed role that no field has
-abbrev pub missing : EventName → List Field → Option Role
-missing event fields = find (λ role. is_none (place_of event fields role)) (needed event)

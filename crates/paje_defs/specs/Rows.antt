@@ -3,13 +3,13 @@ use Rattle.std.specs.Prelude.{ℕ, ◌+◌, List, [], ◌∷◌, length, drop, f
 use Rattle.std.specs.List.{slice_split}
 use Rattle.std.specs.Option.{option_map}
 use Rattle.paje_lex.specs.LineKinds.{is_blank, tokens_start}
-use Rattle.paje_defs.specs.declared.names.FieldName.{FieldName}
-use Rattle.paje_defs.specs.declared.names.FieldType.{FieldType}
-use Rattle.paje_defs.specs.declared.names.EventName.{EventName}
-use Rattle.paje_defs.specs.declared.names.Role.{Role}
-use Rattle.paje_defs.specs.declared.fields.Field.{Field}
-use Rattle.paje_defs.specs.declared.table.Definition.{Definition}
-use Rattle.paje_defs.specs.declared.event.EventFault.{EventFault}
+use Rattle.paje_defs.specs.declared.field_name.FieldName.{FieldName}
+use Rattle.paje_defs.specs.declared.field_type.FieldType.{FieldType}
+use Rattle.paje_defs.specs.declared.event_name.EventName.{EventName}
+use Rattle.paje_defs.specs.declared.role.Role.{Role}
+use Rattle.paje_defs.specs.declared.field.Field.{Field}
+use Rattle.paje_defs.specs.declared.definition.Definition.{Definition}
+use Rattle.paje_defs.specs.declared.event_fault.EventFault.{EventFault}
 use Rattle.paje_defs.specs.Lines.{Definitions, Line, definitions_of_lines, first_refused}
 use Rattle.paje_defs.specs.Events.{Event, event_of, role_text, size_in, message_size}
 

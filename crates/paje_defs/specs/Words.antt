@@ -1,0 +1,11 @@
+-- The words of a line.
+use Rattle.std.specs.Prelude.{ℕ, List, map, slice_range}
+use Rattle.paje_lex.specs.declared.line.Token.{Token}
+use Rattle.paje_defs.specs.declared.words.Words.{Words}
+
+-- the bytes of the tokens of a line
+abbrev pub words_of : List ℕ → List Token → List (List ℕ)
+words_of line tokens = map (λ t. slice_range line t.from t.to) tokens
+
+abbrev pub words_in : Words → List (List ℕ)
+words_in w = words_of w.line.now w.tokens.now
