@@ -1,6 +1,6 @@
 -- The words of a line.
 use Rattle.std.specs.Prelude.{ℕ, List, map, slice_range}
-use Rattle.paje_lex.specs.declared.line.Token.{Token}
+use Rattle.paje_lex.specs.declared.token.Token.{Token}
 use Rattle.paje_defs.specs.declared.words.Words.{Words}
 
 -- the bytes of the tokens of a line

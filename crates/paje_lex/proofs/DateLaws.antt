@@ -9,8 +9,8 @@ use Rattle.std.proofs.lemmas.Bool.{true≢false, and_parts, eqb-true, ltb-true, 
 use Rattle.std.proofs.lemmas.Bool.Decides.{nat_tests}
 use Rattle.std.proofs.Math.Nat.{lt-div-mul-add}
 use Rattle.std.proofs.lemmas.Nat.{div-add-mod'}
-use Rattle.paje_lex.specs.declared.dates.DateFault.{DateFault}
-use Rattle.paje_lex.specs.declared.dates.DateFault.TheVariants.{Shape, Negative, Big}
+use Rattle.paje_lex.specs.declared.date_fault.DateFault.{DateFault}
+use Rattle.paje_lex.specs.declared.date_fault.DateFault.TheVariants.{Shape, Negative, Big}
 use Rattle.paje_lex.specs.DateGrammar.{Date, Exponent, date_text, fraction_text, exponent_text, IsSign, AreDigits, digits_of, IsExponent, IfExponent, IsDate, number, is_minus, meaning, numerator, denominator}
 use Rattle.paje_lex.specs.DateReading.{is_sign, sign_len, fraction_of, fraction_at, are_exponent_digits, is_exponent_letter, exponent_of, behind_digits, unsigned_of, body_of, digits_at, date_parts, parts_of, time_of, date_of}
 use Rattle.paje_lex.proofs.Scaling.{ten_pow_pos}

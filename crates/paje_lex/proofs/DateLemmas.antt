@@ -6,8 +6,8 @@ use Rattle.std.specs.Option.{option_map}
 use Rattle.std.specs.Char.{is_ascii_digit}
 use Rattle.std.proofs.lemmas.Bool.Decides.{nat_tests}
 use Rattle.std.proofs.lemmas.Bool.{le-ltb, lt-ltb, true≢false}
-use Rattle.paje_lex.specs.declared.dates.DateFault.{DateFault}
-use Rattle.paje_lex.specs.declared.dates.DateFault.TheVariants.{Shape, Negative}
+use Rattle.paje_lex.specs.declared.date_fault.DateFault.{DateFault}
+use Rattle.paje_lex.specs.declared.date_fault.DateFault.TheVariants.{Shape, Negative}
 use Rattle.paje_lex.specs.DateGrammar.{Date, Exponent, number, is_minus, tens_of, tens_up, tens_down, within_limit}
 use Rattle.paje_lex.specs.DateReading.{are_exponent_digits, sign_len, exponent_behind, exponent_of, is_exponent_letter, behind_digits, body_of, digits_at, places_at, unsigned_of, parts_of, date_of, time_of}
 

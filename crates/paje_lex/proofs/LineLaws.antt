@@ -5,10 +5,10 @@ use Rattle.std.specs.Str.{IsUtf8, is_utf8}
 use Rattle.std.specs.Str.Lossy.{utf8_valid_len}
 use Rattle.std.proofs.lemmas.Str.{IsUtf8-from_is_utf8, is_utf8-from_IsUtf8}
 use Rattle.std.proofs.lemmas.Bool.{true≢false, eqb-true}
-use Rattle.paje_lex.specs.declared.line.Token.{Token}
-use Rattle.paje_lex.specs.declared.line.LexFault.{LexFault}
-use Rattle.paje_lex.specs.declared.line.LexFault.TheVariants.{NotText, OpenQuote, Memory}
-use Rattle.paje_lex.specs.declared.line.State.TheVariants.{Between, Plain, Quoted}
+use Rattle.paje_lex.specs.declared.token.Token.{Token}
+use Rattle.paje_lex.specs.declared.lex_fault.LexFault.{LexFault}
+use Rattle.paje_lex.specs.declared.lex_fault.LexFault.TheVariants.{NotText, OpenQuote, Memory}
+use Rattle.paje_lex.specs.declared.state.State.TheVariants.{Between, Plain, Quoted}
 use Rattle.paje_lex.specs.LineKinds.{is_blank, tokens_start}
 use Rattle.paje_lex.specs.LineReading.{scan, joined, lexed}
 use Rattle.paje_lex.specs.LineGrammar.{Answer, token, UnlessMemory, Piece, blank, quoted, plain, piece_text, pieces_text, NoQuotes, NoBlanks, IsPlain, IsPiece, MayFollow, ArePieces, tokens_from, IsCut, IsOpen, body_of_line, Lexes, LexesUnlessMemory}

@@ -3,9 +3,9 @@ use Rattle.std.proofs.Common.{◌≡◌, List, ℕ, Bool, true, false, Result, E
 use Rattle.std.specs.Str.{IsUtf8, is_utf8}
 use Rattle.std.specs.Str.Lossy.{utf8_valid_len}
 use Rattle.std.proofs.lemmas.Str.{IsUtf8-from_is_utf8, is_utf8-from_IsUtf8}
-use Rattle.paje_lex.specs.declared.line.Token.{Token}
-use Rattle.paje_lex.specs.declared.line.LexFault.{LexFault}
-use Rattle.paje_lex.specs.declared.line.LexFault.TheVariants.{NotText}
+use Rattle.paje_lex.specs.declared.token.Token.{Token}
+use Rattle.paje_lex.specs.declared.lex_fault.LexFault.{LexFault}
+use Rattle.paje_lex.specs.declared.lex_fault.LexFault.TheVariants.{NotText}
 use Rattle.paje_lex.specs.LineGrammar.{UnlessMemory}
 use Rattle.paje_lex.specs.LineReading.{lexed, scanned}
 

@@ -3,10 +3,10 @@ use Rattle.std.proofs.Common.{ℕ, ◌+◌, ◌≤◌, ◌==◌, List, [], ◌�
 use Rattle.std.specs.List.{AllByRecursion}
 use Rattle.std.specs.Option.{option_to_list}
 use Rattle.std.proofs.lemmas.List.Elements.{All-from_recursion}
-use Rattle.paje_lex.specs.declared.line.Token.{Token}
-use Rattle.paje_lex.specs.declared.line.LexFault.{LexFault}
-use Rattle.paje_lex.specs.declared.line.State.{State}
-use Rattle.paje_lex.specs.declared.line.State.TheVariants.{Between, Plain, Quoted}
+use Rattle.paje_lex.specs.declared.token.Token.{Token}
+use Rattle.paje_lex.specs.declared.lex_fault.LexFault.{LexFault}
+use Rattle.paje_lex.specs.declared.state.State.{State}
+use Rattle.paje_lex.specs.declared.state.State.TheVariants.{Between, Plain, Quoted}
 use Rattle.paje_lex.specs.LineKinds.{is_blank}
 use Rattle.paje_lex.specs.LineGrammar.{token, StandIn, UnlessMemory}
 use Rattle.paje_lex.specs.LineReading.{starting, step, scan, joined, IsBefore}

@@ -5,8 +5,8 @@ use Rattle.std.proofs.Math.Nat.{one-le-pow, mul-le-mul_right, mul-le-mul_left, l
 use Rattle.std.proofs.lemmas.List.Sums.{fold-append}
 use Rattle.std.proofs.lemmas.Bool.{le-ltb, lt-ltb, ltb-true, true≢false}
 use Rattle.std.proofs.lemmas.Bool.Decides.{nat_tests}
-use Rattle.paje_lex.specs.declared.dates.DateFault.{DateFault}
-use Rattle.paje_lex.specs.declared.dates.DateFault.TheVariants.{Big}
+use Rattle.paje_lex.specs.declared.date_fault.DateFault.{DateFault}
+use Rattle.paje_lex.specs.declared.date_fault.DateFault.TheVariants.{Big}
 use Rattle.paje_lex.specs.DateGrammar.{number, within_limit}
 
 -- one digit more

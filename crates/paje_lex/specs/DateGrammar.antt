@@ -2,8 +2,8 @@
 use Rattle.std.specs.Prelude.{◌≡◌, ℕ, ◌+◌, ◌-◌, ◌*◌, ◌/◌, ◌^◌, ◌<◌, ◌≤◌, ◌&&◌, ◌==◌, ◌⊎◌, List, [], ◌∷◌, ◌++◌, length, fold, Bool, true, Option, Some, None, Ok, Err, Result, unwrap_or, if◌then◌else◌, nat_lt, slice_index}
 use Rattle.std.specs.List.{AllByRecursion}
 use Rattle.std.specs.Char.{is_ascii_digit}
-use Rattle.paje_lex.specs.declared.dates.DateFault.{DateFault}
-use Rattle.paje_lex.specs.declared.dates.DateFault.TheVariants.{Negative, Big}
+use Rattle.paje_lex.specs.declared.date_fault.DateFault.{DateFault}
+use Rattle.paje_lex.specs.declared.date_fault.DateFault.TheVariants.{Negative, Big}
 
 -- the parts of an exponent, in order: its letter, its sign (nothing, + or -), its digits
 pub record Exponent : Type 0 where

@@ -3,8 +3,8 @@ use Rattle.std.specs.Prelude.{ℕ, ◌&&◌, ◌||◌, ◌==◌, List, [], ◌�
 use Rattle.std.specs.List.{take_while, prefix_len, list_all}
 use Rattle.std.specs.Option.{option_map}
 use Rattle.std.specs.Char.{is_ascii_digit}
-use Rattle.paje_lex.specs.declared.dates.DateFault.{DateFault}
-use Rattle.paje_lex.specs.declared.dates.DateFault.TheVariants.{Shape}
+use Rattle.paje_lex.specs.declared.date_fault.DateFault.{DateFault}
+use Rattle.paje_lex.specs.declared.date_fault.DateFault.TheVariants.{Shape}
 use Rattle.paje_lex.specs.DateGrammar.{Date, Exponent, number, fraction_text, meaning}
 
 abbrev pub is_sign : ℕ → Bool

@@ -2,9 +2,9 @@
 use Rattle.std.specs.Prelude.{◌≡◌, ◌≤◌, All, ℕ, ◌+◌, ◌==◌, List, [], ◌∷◌, ◌++◌, length, drop, false, IsTrue, Ok, Err, Result, IsUtf8}
 use Rattle.std.specs.List.{AllByRecursion}
 use Rattle.std.specs.Str.Lossy.{utf8_valid_len}
-use Rattle.paje_lex.specs.declared.line.Token.{Token}
-use Rattle.paje_lex.specs.declared.line.LexFault.{LexFault}
-use Rattle.paje_lex.specs.declared.line.LexFault.TheVariants.{NotText, OpenQuote, Memory}
+use Rattle.paje_lex.specs.declared.token.Token.{Token}
+use Rattle.paje_lex.specs.declared.lex_fault.LexFault.{LexFault}
+use Rattle.paje_lex.specs.declared.lex_fault.LexFault.TheVariants.{NotText, OpenQuote, Memory}
 use Rattle.paje_lex.specs.LineKinds.{is_blank, tokens_start}
 
 -- what a line gives: its tokens, or what is wrong with it

@@ -3,11 +3,11 @@ use Rattle.std.specs.Prelude.{ℕ, ◌+◌, ◌<◌, ◌==◌, List, [], ◌∷�
 use Rattle.std.specs.Option.{option_to_list}
 use Rattle.std.specs.Str.{is_utf8}
 use Rattle.std.specs.Str.Lossy.{utf8_valid_len}
-use Rattle.paje_lex.specs.declared.line.Token.{Token}
-use Rattle.paje_lex.specs.declared.line.LexFault.{LexFault}
-use Rattle.paje_lex.specs.declared.line.LexFault.TheVariants.{NotText, OpenQuote}
-use Rattle.paje_lex.specs.declared.line.State.{State}
-use Rattle.paje_lex.specs.declared.line.State.TheVariants.{Between, Plain, Quoted}
+use Rattle.paje_lex.specs.declared.token.Token.{Token}
+use Rattle.paje_lex.specs.declared.lex_fault.LexFault.{LexFault}
+use Rattle.paje_lex.specs.declared.lex_fault.LexFault.TheVariants.{NotText, OpenQuote}
+use Rattle.paje_lex.specs.declared.state.State.{State}
+use Rattle.paje_lex.specs.declared.state.State.TheVariants.{Between, Plain, Quoted}
 use Rattle.paje_lex.specs.LineKinds.{is_blank, tokens_start}
 use Rattle.paje_lex.specs.LineGrammar.{token}
 

@@ -4,25 +4,11 @@ ghost use Rattle.paje_lex.specs.DateReading.{date_of, sign_len, exponent_of, exp
 ghost use Rattle.paje_lex.specs.DigitsSpec.{Holds};
 ghost use Rattle.std.specs.Option.{option_map};
 
+use crate::date_fault::DateFault;
 use crate::digits::Digits;
-use thiserror::Error;
 
 /// The most digits of an exponent.
 const EXPONENT_DIGITS: usize = 4;
-
-/// Why a text is no date that the server takes.
-#[derive(Clone, Copy, Debug, PartialEq, Eq, Error)]
-pub enum DateFault {
-    /// It isn't written as a date.
-    #[error("not a date")]
-    Shape,
-    /// It is below 0.
-    #[error("a date below 0")]
-    Negative,
-    /// It is above 2^62 nanoseconds.
-    #[error("a date above 2^62 nanoseconds")]
-    Big,
-}
 
 fn sign_length(text: &[u8]) -> usize
     ensures { result ≡ sign_len text.now }

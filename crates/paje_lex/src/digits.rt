@@ -3,7 +3,7 @@ ghost use Rattle.std.specs.List.{prefix_len};
 ghost use Rattle.std.specs.Char.{is_ascii_digit};
 ghost use Rattle.paje_lex.specs.DateGrammar.{number, within_limit};
 
-use crate::dates::DateFault;
+use crate::date_fault::DateFault;
 use trace_base::MAX_TIME;
 
 /// The least head that takes no further digit.

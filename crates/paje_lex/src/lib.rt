@@ -1,14 +1,23 @@
 //! The tokens of a trace line, and the dates that stand in it.
 #![tactic(auto)]
 
+mod date_fault;
 mod dates;
 mod digits;
+mod lex_fault;
 mod line;
+mod line_kinds;
 mod rows;
+mod state;
+mod token;
 
-pub use dates::{DateFault, date};
-pub use line::{LexFault, Token, is_definition, is_skipped, tokens};
+pub use date_fault::DateFault;
+pub use dates::date;
+pub use lex_fault::LexFault;
+pub use line::tokens;
+pub use line_kinds::{is_definition, is_skipped};
 pub use rows::{date_rows, line_rows, token_rows};
+pub use token::Token;
 
 #[cfg(test)]
 mod tests;

@@ -5,8 +5,8 @@ ghost use Rattle.paje_lex.specs.DateReading.{date_of};
 ghost use Rattle.paje_lex.specs.LineKinds.{is_skipped_line, is_definition_line};
 ghost use Rattle.paje_lex.specs.LineGrammar.{Lexes, token};
 
-use crate::dates::DateFault;
-use crate::line::LexFault;
+use crate::date_fault::DateFault;
+use crate::lex_fault::LexFault;
 
 /// Dates and their nanoseconds.
 #[tactic(auto, unfolding(crate::specs::DateReading::parts_of, crate::specs::DateReading::exponent_of))]

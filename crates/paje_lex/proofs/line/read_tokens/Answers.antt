@@ -1,6 +1,6 @@
 use Rattle.std.proofs.Common.{drop, Err, sym, ◌∙◌, ap}
-use Rattle.paje_lex.specs.declared.line.LexFault.TheVariants.{NotText}
-use Rattle.paje_lex.specs.declared.line.State.TheVariants.{Between}
+use Rattle.paje_lex.specs.declared.lex_fault.LexFault.TheVariants.{NotText}
+use Rattle.paje_lex.specs.declared.state.State.TheVariants.{Between}
 use Rattle.paje_lex.specs.LineReading.{lexed, scan}
 use Rattle.paje_lex.proofs.LineLemmas.{lexed_text, lexed_not_text, told_of}
 use Rattle.paje_lex.proofs.LinePlaces.{told_within}

@@ -1,5 +1,5 @@
 use Rattle.std.proofs.Common.{◌≡◌, drop}
-use Rattle.paje_lex.specs.declared.line.State.TheVariants.{Between}
+use Rattle.paje_lex.specs.declared.state.State.TheVariants.{Between}
 use Rattle.paje_lex.specs.LineReading.{scan, joined, IsBefore}
 use Rattle.paje_lex.proofs.line.scan.Given as goal
 

@@ -1,7 +1,7 @@
 use Rattle.std.proofs.Common.{sym, arith}
 use Rattle.std.proofs.lemmas.List.Sums.{prefix_len_is}
 use Rattle.paje_lex.specs.LineKinds.{is_blank}
-use Rattle.paje_lex.proofs.line.blanks.Goals as goal
+use Rattle.paje_lex.proofs.line_kinds.blanks.Goals as goal
 
 pub returns-then-not-is_blank-clause-len : goal.returns-then-not-is_blank-clause-len
 returns-then-not-is_blank-clause-len c =
