@@ -2,7 +2,7 @@
 use Rattle.std.proofs.Common.{◌≡◌, ℕ, ◌+◌, ◌<◌, List, [], ◌∷◌, length, slice_get, nat_lt, cond, position, nat_eq, unwrap_or, Bool, true, false, Option, Some, None, is_some, is_none, IfSome, Result, Ok, Err, refl, sym, ◌∙◌, ap, subst, arith}
 use Rattle.std.specs.List.{AllByRecursion, find, position_or_len}
 use Rattle.std.specs.Map.{lookup}
-use Rattle.std.specs.Option.{IsSome}
+use Rattle.std.specs.Option.{IsSome, option_and_then, option_or}
 use Rattle.std.specs.Result.{is_ok, result_unwrap_or, IfOk}
 use Rattle.std.proofs.lemmas.Bool.{true≢false, ltb-true}
 use Rattle.std.proofs.lemmas.Option.{slice_get-get_or}
@@ -16,10 +16,11 @@ use Rattle.paje_defs.specs.declared.definition.Definition.{Definition}
 use Rattle.paje_defs.specs.declared.event_fault.EventFault.{EventFault}
 use Rattle.paje_defs.specs.declared.event_fault.EventFault.TheVariants as faults
 use Rattle.paje_defs.specs.declared.fields.Fields.{Fields}
-use Rattle.paje_defs.specs.Definition.{IsWhole, is_named, place_of, place_of_name, place_or}
+use Rattle.paje_defs.specs.Definition.{IsWhole, is_named, place_of, place_of_name}
+use Rattle.paje_defs.specs.Numbers.{event_number_of}
 use Rattle.paje_defs.specs.Role.{first_name, needed, second_name}
 use Rattle.paje_defs.specs.Lines.{definition_of}
-use Rattle.paje_defs.specs.Events.{Event, HasNeeded, RolesStand, Tells, event_numbered, event_of, event_under, number_in, role_text, text_at, text_of, time_of_text, timed}
+use Rattle.paje_defs.specs.Events.{Event, HasNeeded, RolesStand, Tells, event_numbered, event_of, event_under, role_text, text_at, text_of, time_of_text, timed}
 
 -- ---- where a field stands
 
@@ -30,18 +31,18 @@ position_within p xs = by_test (position_or_len p xs) (length xs) (nat_lt (posit
     by_test at len true e = ltb-true at len e
     by_test at len false e = tt
 
-or_within : (len : ℕ) (first second : Option ℕ) → IfSome first (λ at. at < len) → IfSome second (λ at. at < len) → IfSome (place_or first second) (λ at. at < len)
+or_within : (len : ℕ) (first second : Option ℕ) → IfSome first (λ at. at < len) → IfSome second (λ at. at < len) → IfSome (option_or first second) (λ at. at < len)
 or_within len None second a b = b
 or_within len (Some place) second a b = a
 
-name_within : (fields : List Field) (name : Option FieldName) → IfSome (place_of_name fields name) (λ at. at < length fields)
-name_within fields None = tt
-name_within fields (Some name) = position_within (is_named name) fields
+second_within : (fields : List Field) (name : Option FieldName) → IfSome (option_and_then (place_of_name fields) name) (λ at. at < length fields)
+second_within fields None = tt
+second_within fields (Some name) = position_within (is_named name) fields
 
 pub place_within : (event : EventName) (fields : List Field) (role : Role) → IfSome (place_of event fields role) (λ at. at < length fields)
 place_within event fields role =
-    or_within (length fields) (place_of_name fields (Some (first_name role))) (place_of_name fields (second_name event role))
-    (name_within fields (Some (first_name role))) (name_within fields (second_name event role))
+    or_within (length fields) (place_of_name fields (first_name role)) (option_and_then (place_of_name fields) (second_name event role))
+    (position_within (is_named (first_name role)) fields) (second_within fields (second_name event role))
 
 -- ---- the definition of an event line
 
@@ -76,7 +77,7 @@ found_by entries words None e is = absurd (true≢false (sym (ap is_ok is)))
 found_by entries words (Some number) e is = numbered_by entries words number (definition_of entries number) e refl is
 
 event_found : (entries : List (ℕ × Definition)) (words : List (List ℕ)) (e : Event) → event_of entries words ≡ Ok e → IsFound entries words e.definition
-event_found entries words e is = found_by entries words (number_in (slice_get words 0)) e is
+event_found entries words e is = found_by entries words (option_and_then event_number_of (slice_get words 0)) e is
 
 -- ---- the texts of its roles
 

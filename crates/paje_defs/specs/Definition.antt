@@ -1,5 +1,6 @@
 -- Which field of a definition has which role.
-use Rattle.std.specs.Prelude.{◌≡◌, ℕ, ◌==◌, List, Bool, Option, Some, None, position, is_none}
+use Rattle.std.specs.Prelude.{◌≡◌, ℕ, ◌==◌, List, Bool, Option, None, position, is_none}
+use Rattle.std.specs.Option.{option_and_then, option_or}
 use Rattle.std.specs.List.{find}
 use Rattle.paje_defs.specs.declared.event_name.EventName.{EventName}
 use Rattle.paje_defs.specs.declared.field_name.FieldName.{FieldName}
@@ -14,17 +15,13 @@ is_named name f = name_number f.name == name_number name
 
 -- ---- where the field of a role stands
 
-abbrev pub place_of_name : List Field → Option FieldName → Option ℕ
-place_of_name fields None = None
-place_of_name fields (Some name) = position (is_named name) fields
-
-abbrev pub place_or : Option ℕ → Option ℕ → Option ℕ
-place_or None second = second
-place_or (Some place) second = Some place
+-- the first field of a name
+abbrev pub place_of_name : List Field → FieldName → Option ℕ
+place_of_name fields name = position (is_named name) fields
 
 -- the first field of the first name, else the first field of the second
 abbrev pub place_of : EventName → List Field → Role → Option ℕ
-place_of event fields role = place_or (place_of_name fields (Some (first_name role))) (place_of_name fields (second_name event role))
+place_of event fields role = option_or (place_of_name fields (first_name role)) (option_and_then (place_of_name fields) (second_name event role))
 
 -- the first needed role that no field has
 abbrev pub missing : EventName → List Field → Option Role

@@ -1,7 +1,7 @@
 -- What an event line tells under the definitions.
 use Rattle.std.specs.Prelude.{◌≡◌, ℕ, ◌+◌, List, length, slice_get, is_some, Option, Some, None, Ok, Err, Result, MatchResult, if◌then◌else◌, nat_lt}
 use Rattle.std.specs.List.{AllByRecursion}
-use Rattle.std.specs.Option.{option_copied, IsSome}
+use Rattle.std.specs.Option.{option_and_then, option_copied, IsSome}
 use Rattle.paje_lex.specs.declared.date_fault.DateFault.{DateFault}
 use Rattle.paje_lex.specs.DateReading.{date_of}
 use Rattle.paje_defs.specs.declared.event_name.EventName.{EventName}
@@ -23,8 +23,7 @@ use Rattle.paje_defs.specs.Lines.{definition_of}
 
 -- the text of the field at a place: the first token is the number
 abbrev pub text_at : List (List ℕ) → Option ℕ → Option (List ℕ)
-text_at words None = None
-text_at words (Some place) = slice_get words (place + 1)
+text_at words place = option_and_then (λ at. slice_get words (at + 1)) place
 
 -- the text of a role's field
 abbrev pub role_text : Definition → List (List ℕ) → Role → Option (List ℕ)
@@ -51,13 +50,9 @@ abbrev pub field_size : Option Field → Option (List ℕ) → ℕ
 field_size None text = 0
 field_size (Some f) text = typed_size f.kind text
 
-abbrev pub field_at : List Field → Option ℕ → Option Field
-field_at fields None = None
-field_at fields (Some place) = slice_get fields place
-
 -- the size that the field of the role Size tells
 abbrev pub size_in : Definition → List (List ℕ) → ℕ
-size_in d words = field_size (field_at d.fields (place_of d.event d.fields roles.Size)) (role_text d words roles.Size)
+size_in d words = field_size (option_and_then (slice_get d.fields) (place_of d.event d.fields roles.Size)) (role_text d words roles.Size)
 
 -- only the start of a link has one
 abbrev pub message_size : EventName → ℕ → ℕ
@@ -83,13 +78,9 @@ abbrev pub event_numbered : List (ℕ × Definition) → List (List ℕ) → Opt
 event_numbered entries words None = Err faults.NoNumber
 event_numbered entries words (Some number) = event_under words (definition_of entries number)
 
-abbrev pub number_in : Option (List ℕ) → Option ℕ
-number_in None = None
-number_in (Some text) = event_number_of text
-
 -- the definition and the time of an event line with these words, or why it is refused
 abbrev pub event_of : List (ℕ × Definition) → List (List ℕ) → Result Event EventFault
-event_of entries words = event_numbered entries words (number_in (slice_get words 0))
+event_of entries words = event_numbered entries words (option_and_then event_number_of (slice_get words 0))
 
 -- ---- what a call gives
 

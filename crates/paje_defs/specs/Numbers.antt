@@ -1,5 +1,5 @@
 -- The numbers that stand in the lines of a trace.
-use Rattle.std.specs.Prelude.{ℕ, ◌^◌, ◌&&◌, ◌==◌, List, [], ◌∷◌, length, Option, Some, None, if◌then◌else◌, nat_lt, nat_le}
+use Rattle.std.specs.Prelude.{ℕ, ◌^◌, ◌&&◌, ◌==◌, List, [], ◌∷◌, length, Option, Some, None, unwrap_or, if◌then◌else◌, nat_lt, nat_le}
 use Rattle.std.specs.List.{list_all}
 use Rattle.std.specs.Char.{is_ascii_digit}
 use Rattle.paje_lex.specs.DateGrammar.{number}
@@ -16,12 +16,8 @@ below limit (Some n) = if nat_lt n limit then Some n else None
 abbrev pub event_number_of : List ℕ → Option ℕ
 event_number_of text = below (2 ^ 32) (decimal_of 10 text)
 
-abbrev pub or_zero : Option ℕ → ℕ
-or_zero None = 0
-or_zero (Some n) = n
-
 abbrev pub plain_size : List ℕ → ℕ
-plain_size text = or_zero (below (2 ^ 63) (decimal_of 19 text))
+plain_size text = unwrap_or (below (2 ^ 63) (decimal_of 19 text)) 0
 
 -- the size of a message: one to nineteen digits behind + or no sign, below 2 ^ 63; anything else is 0
 abbrev pub size_of : List ℕ → ℕ
