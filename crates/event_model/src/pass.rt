@@ -1,7 +1,7 @@
 //! One pass over the events of one stream.
-ghost use Rattle.std.specs.Prelude.{◌≡◌, ◌+◌, ◌-◌, ◌^◌, ◌≤◌, min, max, fold, count_by, IfOk, OnOk, if◌then◌else◌, ◌&&◌, nat_le, nat_lt};
+ghost use Rattle.std.specs.Prelude.{◌≡◌, ◌+◌, ◌-◌, ◌^◌, ◌≤◌, min, max, fold, count_by, IfOk, OnOk, if◌then◌else◌, ◌&&◌};
 ghost use Rattle.event_model.specs.Part.{has};
-ghost use Rattle.trace_base.specs.Flat.{enters_in, function_of, time_with, calls_in};
+ghost use Rattle.trace_base.specs.Flat.{calls_in, enters_in, function_of, is_within, time_with};
 ghost use Rattle.trace_base.specs.Paths.{calls_making};
 ghost use Rattle.trace_base.specs.Stream.{time_of, is_enter, stack_step, IsLegal};
 
@@ -124,7 +124,7 @@ pub fn greatest_in(s: &TrackStream, so_far: u32) -> u32
 
 /// Whether the event begins a call within [a, b).
 fn begins_within(event: Event, a: u64, b: u64) -> bool
-    ensures { result ≡ (is_enter event && (nat_le a (time_of event) && nat_lt (time_of event) b)) }
+    ensures { result ≡ (is_enter event && is_within a b (time_of event)) }
 {
     match event {
         Event::Enter(_, t) => a <= t && t < b,
@@ -134,7 +134,7 @@ fn begins_within(event: Event, a: u64, b: u64) -> bool
 
 /// One where the event begins a call within [a, b) after which the part runs, else none.
 fn call_into(event: Event, part: Part<'_>, stack: &[u32], a: u64, b: u64) -> u64
-    ensures exact { result ≡ (if (is_enter event && (nat_le a (time_of event) && nat_lt (time_of event) b)) && has part.entry stack.now then 1 else 0) }
+    ensures exact { result ≡ (if (is_enter event && is_within a b (time_of event)) && has part.entry stack.now then 1 else 0) }
     ensures one { result ≤ 1 }
 {
     u64::from(begins_within(event, a, b) && runs(part, stack))

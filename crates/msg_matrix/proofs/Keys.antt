@@ -13,16 +13,16 @@ use Rattle.std.proofs.lemmas.Cmp.{nat_cmp_total, eq_by_cmp_equiv}
 use Rattle.std.proofs.lemmas.Map.Entries.{lookup_from_place}
 use Rattle.std.proofs.lemmas.Map.Keys.{IsDistinct-from_sorted}
 use Rattle.trace_base.proofs.Order.{all_mapped, filter_every, filter_none}
-use Rattle.trace_base.specs.Matrix.{pair_cmp}
+use Rattle.msg_matrix.specs.Pairs.{pair_cmp}
 
 -- the key put into a list of different keys in order
 abbrev pub put_key : {K : Type 0} → (K → K → Ordering) → K → List K → List K
 put_key cmp k ks = filter (λ q. is_lt (cmp q k)) ks ++ k ∷ filter (λ q. is_lt (cmp k q)) ks
 
-none_before : {K : Type 0} (cmp : K → K → Ordering) → IsTotalOrder cmp → (k : K) (ks : List K) → AllByRecursion (λ q. cmp k q ≡ Less) ks → filter (λ q. is_lt (cmp q k)) ks ≡ []
+pub none_before : {K : Type 0} (cmp : K → K → Ordering) → IsTotalOrder cmp → (k : K) (ks : List K) → AllByRecursion (λ q. cmp k q ≡ Less) ks → filter (λ q. is_lt (cmp q k)) ks ≡ []
 none_before cmp o k ks h = filter_none (λ q. is_lt (cmp q k)) ks (all_mapped (λ q. cmp k q ≡ Less) (λ q. is_lt (cmp q k) ≡ false) (λ q e. ap is_lt (o.antisymm q k ∙ ap ordering_reverse e)) ks h)
 
-every_after : {K : Type 0} (cmp : K → K → Ordering) (k : K) (ks : List K) → AllByRecursion (λ q. cmp k q ≡ Less) ks → filter (λ q. is_lt (cmp k q)) ks ≡ ks
+pub every_after : {K : Type 0} (cmp : K → K → Ordering) (k : K) (ks : List K) → AllByRecursion (λ q. cmp k q ≡ Less) ks → filter (λ q. is_lt (cmp k q)) ks ≡ ks
 every_after cmp k ks h = filter_every (λ q. is_lt (cmp k q)) ks (all_mapped (λ q. cmp k q ≡ Less) (λ q. is_lt (cmp k q) ≡ true) (λ q e. ap is_lt e) ks h)
 
 at_head : {K X : Type 0} (cmp : K → K → Ordering) → IsTotalOrder cmp → ((x y : K) → cmp x y ≡ Equal → x ≡ y) → (e : K × X) (es : List (K × X)) (k : K) (v : X) → AllByRecursion (λ q. cmp e.0 q ≡ Less) (keys_of es) → keys_of (insert_entry cmp es k v) ≡ put_key cmp k (keys_of es) → (r : Ordering) → cmp k e.0 ≡ r

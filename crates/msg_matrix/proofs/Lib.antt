@@ -1,2 +1,3 @@
+pub mod AllPairs
 pub mod Keys
 pub mod Sums

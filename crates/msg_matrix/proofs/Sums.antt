@@ -1,16 +1,17 @@
 -- The row of a pair, one message more.
-use Rattle.std.proofs.Common.{◌≡◌, ℕ, ◌+◌, ◌^◌, ◌<◌, ◌≤◌, Bool, true, false, cond, ◌&&◌, nat_le, nat_lt, max, List, [], ◌∷◌, ◌++◌, length, take, get_or, filter, fold, sum_by, count_by, ap, ◌∙◌, append-nil, arith, length-append}
+use Rattle.std.proofs.Common.{◌≡◌, ℕ, ◌+◌, ◌^◌, ◌<◌, ◌≤◌, Bool, true, false, cond, max, List, [], ◌∷◌, ◌++◌, length, take, get_or, filter, fold, sum_by, count_by, ap, ◌∙◌, append-nil, arith, length-append}
 use Rattle.std.proofs.lemmas.List.{take_more}
 use Rattle.std.proofs.lemmas.List.Elements.{filter-append}
 use Rattle.std.proofs.lemmas.List.Sums.{fold_push, sum_by_push}
-use Rattle.trace_base.specs.Matrix.{sent_within, is_backward, transit_of, pair_of, is_of, pair_row, put_pair, pairs_of}
+use Rattle.trace_base.specs.Flat.{is_within}
+use Rattle.trace_base.specs.Matrix.{sent_within, is_backward, transit_of, is_of, pair_row}
 use Rattle.trace_base.specs.declared.matrix.MatrixRow.{MatrixRow}
 use Rattle.trace_base.specs.declared.messages.Message.{Message}
 use Rattle.msg_matrix.specs.Pairs.{IsOfAtMost, row_with}
 
 -- whether the message was sent within the interval
 abbrev pub is_sent : ℕ → ℕ → Message → Bool
-is_sent a b m = nat_le a m.send && nat_lt m.send b
+is_sent a b m = is_within a b m.send
 
 pub sent_within-more : (a b : ℕ) (ms : List Message) (i : ℕ) (d : Message) → i < length ms → sent_within a b (take (i + 1) ms) ≡ sent_within a b (take i ms) ++ cond (is_sent a b (get_or ms i d)) (get_or ms i d ∷ []) []
 sent_within-more a b ms i d h = ap (sent_within a b) (take_more ms i d h) ∙ filter-append (is_sent a b) (take i ms) (get_or ms i d ∷ [])
@@ -37,10 +38,6 @@ pair_row-push p ms m =
     go : (b : Bool) → row_of_own p (filter (is_of p) ms ++ cond b (m ∷ []) []) ≡ cond b (row_with (row_of_own p (filter (is_of p) ms)) m) (row_of_own p (filter (is_of p) ms))
     go true = row_of_own-push p (filter (is_of p) ms) m
     go false = ap (row_of_own p) (append-nil (filter (is_of p) ms))
-
-pub pairs_of-push : (ms : List Message) (m : Message) → pairs_of (ms ++ m ∷ []) ≡ put_pair (pair_of m) (pairs_of ms)
-unfolding pairs_of
-pairs_of-push ms m = fold_push (λ pairs x. put_pair (pair_of x) pairs) [] ms m
 
 pub IsOfAtMost-more : (row : MatrixRow) (n k : ℕ) → n ≤ k → IsOfAtMost row n → IsOfAtMost row k
 IsOfAtMost-more row n k h small = record { count = omega (arith, small.count); bytes = omega (arith, small.bytes); transit = omega (arith, small.transit); backward = omega (arith, small.backward) }

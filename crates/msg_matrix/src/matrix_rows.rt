@@ -1,6 +1,8 @@
-ghost use Rattle.std.specs.Prelude.{◌≡◌, ◌&&◌, nat_le, nat_lt, IfOk};
+ghost use Rattle.std.specs.Prelude.{◌≡◌, IfOk};
 ghost use Rattle.std.specs.BTreeMap.{values, IsOrdered};
-ghost use Rattle.trace_base.specs.Matrix.{matrix_of, pair_cmp};
+ghost use Rattle.trace_base.specs.Flat.{is_within};
+ghost use Rattle.trace_base.specs.Matrix.{matrix_of};
+ghost use Rattle.msg_matrix.specs.Pairs.{pair_cmp};
 
 use crate::pairs::add;
 use std::alloc::Global;
@@ -9,7 +11,7 @@ use trace_base::{Matrix, MatrixRow, Memory, Message, MsgTable, Seq};
 
 /// Whether the message was sent within [a, b).
 fn is_sent_within(m: &Message, a: u64, b: u64) -> bool
-    ensures { result ≡ (nat_le a m.now.send && nat_lt m.now.send b) }
+    ensures { result ≡ is_within a b m.now.send }
 {
     a <= m.send && m.send < b
 }

@@ -1,7 +1,7 @@
 ghost use Rattle.std.specs.Prelude.{◌≡◌, ◌+◌, ◌^◌, ℕ, OnOk, if◌then◌else◌};
 ghost use Rattle.std.specs.BTreeMap.{keys};
-ghost use Rattle.msg_matrix.specs.Pairs.{IsOfAtMost, empty_row, row_at, row_with};
-ghost use Rattle.trace_base.specs.Matrix.{is_of, pair_of, put_pair};
+ghost use Rattle.msg_matrix.specs.Pairs.{IsOfAtMost, empty_row, pair_of, put_pair, row_at, row_with};
+ghost use Rattle.trace_base.specs.Matrix.{is_of};
 ghost use Rattle.trace_base.specs.declared.matrix.MatrixRow.{MatrixRow};
 
 use std::collections::BTreeMap;

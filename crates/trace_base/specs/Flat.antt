@@ -13,9 +13,13 @@ use Rattle.trace_base.specs.declared.profile.Profile.{Profile}
 abbrev pub clip : ℕ → ℕ → Piece → ℕ
 clip a b p = min p.to b - max p.from a
 
+-- whether a time is within the interval
+abbrev pub is_within : ℕ → ℕ → ℕ → Bool
+is_within a b t = nat_le a t && nat_lt t b
+
 -- the calls of which f is the function are entered, at a time within the interval
 abbrev pub enters_in : ℕ → ℕ → ℕ → Event → Bool
-enters_in f a b (Enter g t) = g == f && (nat_le a t && nat_lt t b)
+enters_in f a b (Enter g t) = g == f && is_within a b t
 enters_in f a b (Leave t) = false
 
 -- whether a call of f is open

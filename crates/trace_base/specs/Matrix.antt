@@ -1,14 +1,14 @@
 -- The communication matrix of messages over a half-open interval.
-use Rattle.std.specs.Prelude.{ℕ, ◌-◌, Bool, ◌&&◌, ◌==◌, nat_le, nat_lt, max, List, [], ◌∷◌, ◌++◌, length, map, filter, fold, sum_by, count_by}
-use Rattle.std.specs.Ordering.{is_lt, nat_cmp, ordering_then}
-use Rattle.std.specs.declared.cmp.Ordering.{Ordering}
+use Rattle.std.specs.Prelude.{ℕ, ◌+◌, ◌-◌, Bool, ◌&&◌, ◌==◌, nat_lt, max, List, length, map, filter, fold, sum_by, count_by}
+use Rattle.std.specs.List.{flat_map, list_any, range_with_len}
+use Rattle.trace_base.specs.Flat.{is_within}
 use Rattle.trace_base.specs.declared.matrix.Matrix.{Matrix}
 use Rattle.trace_base.specs.declared.matrix.MatrixRow.{MatrixRow}
 use Rattle.trace_base.specs.declared.messages.Message.{Message}
 
 -- the messages that were sent within the interval
 abbrev pub sent_within : ℕ → ℕ → List Message → List Message
-sent_within a b messages = filter (λ m. nat_le a m.send && nat_lt m.send b) messages
+sent_within a b messages = filter (λ m. is_within a b m.send) messages
 
 -- whether the message was received before it was sent
 abbrev pub is_backward : Message → Bool
@@ -18,11 +18,7 @@ is_backward m = nat_lt m.receive m.send
 abbrev pub transit_of : Message → ℕ
 transit_of m = m.receive - m.send
 
--- the pair of containers that the message goes between: the sender and the receiver
-abbrev pub pair_of : Message → ℕ × ℕ
-pair_of m = (m.from, m.to)
-
--- whether the message is of the pair
+-- whether the message goes between this pair of containers: the sender and the receiver
 abbrev pub is_of : ℕ × ℕ → Message → Bool
 is_of p m = (m.from == p.0) && (m.to == p.1)
 
@@ -38,17 +34,17 @@ pair_row messages p = record {
   backward = count_by is_backward (filter (is_of p) messages);
 }
 
--- the order of pairs: by the sender, then the receiver
-abbrev pub pair_cmp : ℕ × ℕ → ℕ × ℕ → Ordering
-pair_cmp p q = ordering_then (nat_cmp p.0 q.0) (nat_cmp p.1 q.1)
+-- the greatest number of a container that the messages name, 0 where there is none
+abbrev pub greatest_container : List Message → ℕ
+greatest_container messages = fold (λ n m. max n (max m.from m.to)) 0 messages
 
--- the pair put into a list of different pairs in order; where it stands there already, nothing changes
-abbrev pub put_pair : ℕ × ℕ → List (ℕ × ℕ) → List (ℕ × ℕ)
-put_pair p pairs = filter (λ q. is_lt (pair_cmp q p)) pairs ++ p ∷ filter (λ q. is_lt (pair_cmp p q)) pairs
+-- the pairs of numbers below n, in order: by the sender, then the receiver
+abbrev pub pairs_below : ℕ → List (ℕ × ℕ)
+pairs_below n = flat_map (λ from. map (λ to. (from, to)) (range_with_len 0 n)) (range_with_len 0 n)
 
--- the different pairs of the messages, in order
+-- the pairs that have a message, in order
 unfoldable pub pairs_of : List Message → List (ℕ × ℕ)
-pairs_of messages = fold (λ pairs m. put_pair (pair_of m) pairs) [] messages
+pairs_of messages = filter (λ p. list_any (is_of p) messages) (pairs_below (greatest_container messages + 1))
 
 -- the matrix of the messages that were sent within [a, b): a row for each pair that has one
 unfoldable pub matrix_of : List Message → ℕ → ℕ → Matrix

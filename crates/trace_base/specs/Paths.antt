@@ -1,10 +1,10 @@
 -- The call-tree profile of streams over the half-open interval [a, b): what it has for each call path, where a path is
 -- a call stack from the outermost call down.
-use Rattle.std.specs.Prelude.{ℕ, ◌+◌, ◌-◌, zero, suc, Bool, true, false, ◌&&◌, ◌||◌, nat_eq, nat_le, nat_lt, List, [], ◌∷◌, ◌++◌, length, take, sum_by, count_by, slice_index, slice_get}
+use Rattle.std.specs.Prelude.{ℕ, ◌+◌, ◌-◌, zero, suc, Bool, true, false, ◌&&◌, ◌||◌, nat_eq, nat_lt, List, [], ◌∷◌, ◌++◌, length, take, sum_by, count_by, slice_index, slice_get}
 use Rattle.std.specs.Cmp.Lexicographic.{pointwise}
 use Rattle.std.specs.List.{flat_map, range_with_len, starts_with}
 use Rattle.std.specs.Option.{option_map_or}
-use Rattle.trace_base.specs.Flat.{time_with, is_bare, greatest_function}
+use Rattle.trace_base.specs.Flat.{greatest_function, is_bare, is_within, time_with}
 use Rattle.trace_base.specs.Stream.{is_enter, time_of, stack_after}
 use Rattle.trace_base.specs.declared.stream.TrackStream.{TrackStream}
 use Rattle.trace_base.specs.declared.profile.PathRow.{PathRow}
@@ -20,7 +20,7 @@ is_under path stack = starts_with nat_eq stack path
 
 -- whether event i begins a call within the interval that makes a call stack with the property
 abbrev pub makes : (List ℕ → Bool) → ℕ → ℕ → TrackStream → ℕ → Bool
-makes has a b s i = option_map_or (λ e. is_enter e && (nat_le a (time_of e) && nat_lt (time_of e) b)) (slice_get s.events i) false && has (stack_after (take (i + 1) s.events))
+makes has a b s i = option_map_or (λ e. is_enter e && is_within a b (time_of e)) (slice_get s.events i) false && has (stack_after (take (i + 1) s.events))
 
 -- the calls that begin within the interval and make a call stack with the property
 unfoldable pub calls_making : (List ℕ → Bool) → ℕ → ℕ → TrackStream → ℕ

@@ -2,8 +2,8 @@ use Rattle.std.proofs.Common.{◌≡◌, ◌+◌, cond, ap, subst, sym, ◌∙�
 use Rattle.std.proofs.lemmas.Grind.{common_steps}
 use Rattle.trace_base.specs.declared.matrix.MatrixRow.{MatrixRow}
 use Rattle.std.specs.Map.{keys_of}
-use Rattle.trace_base.specs.Matrix.{is_of, pair_cmp, pair_of}
-use Rattle.msg_matrix.specs.Pairs.{IsOfAtMost, row_at, row_with}
+use Rattle.trace_base.specs.Matrix.{is_of}
+use Rattle.msg_matrix.specs.Pairs.{IsOfAtMost, pair_cmp, pair_of, row_at, row_with}
 use Rattle.msg_matrix.proofs.Keys.{keys-insert_entry, pair_cmp-total, pair_cmp-Equal}
 use Rattle.msg_matrix.proofs.Sums.{IsOfAtMost-cond}
 use Rattle.msg_matrix.proofs.pairs.add.Goals as goal
