@@ -19,84 +19,88 @@ use crate::texts::Texts;
 use crate::words::Words;
 use paje_lex::{DateFault, Token, date};
 
-/// The bytes of a role's field of a line.
-fn text<'a>(definition: &Definition, words: &Words<'a, '_>, role: Role) -> Option<&'a [u8]>
-    ensures { option_copied result ≡ role_text definition.now (words_in words.now) role }
-{
-    match definition.place(role) {
-        Some(place) => words.get(place + 1),
-        None => None,
+impl Definition {
+    /// The bytes of a role's field of a line.
+    fn text<'a>(&self, words: &Words<'a, '_>, role: Role) -> Option<&'a [u8]>
+        ensures { option_copied result ≡ role_text self.now (words_in words.now) role }
+    {
+        match self.place(role) {
+            Some(place) => words.get(place + 1),
+            None => None,
+        }
     }
-}
 
-fn read_texts<'a>(definition: &Definition, words: &Words<'a, '_>) -> Texts<'a>
-    ensures { (role : Role) → text_of result role ≡ role_text definition.now (words_in words.now) role }
-{
-    Texts {
-        time: text(definition, words, Role::Time),
-        alias: text(definition, words, Role::Alias),
-        kind: text(definition, words, Role::Kind),
-        name: text(definition, words, Role::Name),
-        holder: text(definition, words, Role::Holder),
-        value: text(definition, words, Role::Value),
-        key: text(definition, words, Role::Key),
-        from_kind: text(definition, words, Role::FromKind),
-        to_kind: text(definition, words, Role::ToKind),
-        from: text(definition, words, Role::From),
-        to: text(definition, words, Role::To),
-        size: text(definition, words, Role::Size),
+    fn texts<'a>(&self, words: &Words<'a, '_>) -> Texts<'a>
+        ensures { (role : Role) → text_of result role ≡ role_text self.now (words_in words.now) role }
+    {
+        Texts {
+            time: self.text(words, Role::Time),
+            alias: self.text(words, Role::Alias),
+            kind: self.text(words, Role::Kind),
+            name: self.text(words, Role::Name),
+            holder: self.text(words, Role::Holder),
+            value: self.text(words, Role::Value),
+            key: self.text(words, Role::Key),
+            from_kind: self.text(words, Role::FromKind),
+            to_kind: self.text(words, Role::ToKind),
+            from: self.text(words, Role::From),
+            to: self.text(words, Role::To),
+            size: self.text(words, Role::Size),
+        }
     }
-}
 
-/// The size that the field of a message's size tells.
-fn size_in(definition: &Definition, words: &Words<'_, '_>) -> u64
-    ensures { result ≡ size_in definition.now (words_in words.now) }
-{
-    let Some(place) = definition.place(Role::Size) else {
-        return 0;
-    };
-    let FieldType::Int = definition.fields.as_slice()[place].kind else {
-        return 0;
-    };
-    match words.get(place + 1) {
-        Some(text) => size(text),
-        None => 0,
+    /// The size that the field of a message's size tells.
+    fn told_size(&self, words: &Words<'_, '_>) -> u64
+        ensures { result ≡ size_in self.now (words_in words.now) }
+    {
+        let Some(place) = self.place(Role::Size) else {
+            return 0;
+        };
+        let FieldType::Int = self.fields.as_slice()[place].kind else {
+            return 0;
+        };
+        match words.get(place + 1) {
+            Some(text) => size(text),
+            None => 0,
+        }
     }
-}
 
-fn message_size(definition: &Definition, words: &Words<'_, '_>) -> u64
-    ensures { result ≡ message_size definition.now.event (size_in definition.now (words_in words.now)) }
-{
-    match definition.event {
-        EventName::StartLink => size_in(definition, words),
-        _ => 0,
+    /// The size of a message, 0 where the line starts none.
+    fn size(&self, words: &Words<'_, '_>) -> u64
+        ensures { result ≡ message_size self.now.event (size_in self.now (words_in words.now)) }
+    {
+        match self.event {
+            EventName::StartLink => self.told_size(words),
+            _ => 0,
+        }
     }
-}
 
-/// The time of an event line.
-fn time_of(definition: &Definition, words: &Words<'_, '_>) -> Result<u64, DateFault>
-    ensures { result ≡ time_of_text (role_text definition.now (words_in words.now) Role.Time) }
-{
-    match text(definition, words, Role::Time) {
-        Some(text) => date(text),
-        None => Ok(0),
+    /// The time of an event line.
+    fn time(&self, words: &Words<'_, '_>) -> Result<u64, DateFault>
+        ensures { result ≡ time_of_text (role_text self.now (words_in words.now) Role.Time) }
+    {
+        match self.text(words, Role::Time) {
+            Some(text) => date(text),
+            None => Ok(0),
+        }
     }
-}
 
-fn read_fields<'a>(definition: &Definition, words: &Words<'a, '_>) -> Result<Fields<'a>, EventFault>
-    ensures { Tells (words_in words.now) result
-        (timed definition.now (time_of_text (role_text definition.now (words_in words.now) Role.Time))) }
-{
-    let time = match time_of(definition, words) {
-        Ok(time) => time,
-        Err(fault) => return Err(EventFault::Date(fault)),
-    };
-    Ok(Fields {
-        kind: definition.event,
-        time,
-        size: message_size(definition, words),
-        texts: read_texts(definition, words),
-    })
+    /// What an event line of this definition tells.
+    fn read<'a>(&self, words: &Words<'a, '_>) -> Result<Fields<'a>, EventFault>
+        ensures { Tells (words_in words.now) result
+            (timed self.now (time_of_text (role_text self.now (words_in words.now) Role.Time))) }
+    {
+        let time = match self.time(words) {
+            Ok(time) => time,
+            Err(fault) => return Err(EventFault::Date(fault)),
+        };
+        Ok(Fields {
+            kind: self.event,
+            time,
+            size: self.size(words),
+            texts: self.texts(words),
+        })
+    }
 }
 
 impl DefTable {
@@ -118,7 +122,7 @@ impl DefTable {
         if words.len() <= definition.fields.len() {
             return Err(EventFault::TooFew);
         }
-        read_fields(definition, &words)
+        definition.read(&words)
     }
 
     /// The fields of an event line with the tokens that it has, under the definitions so far. It takes no memory.

@@ -1,0 +1,11 @@
+use Rattle.std.proofs.Common.{refl, sym, ap}
+use Rattle.paje_defs.specs.Events.{timed}
+use Rattle.paje_defs.proofs.definition.Definition.read.Goals as goal
+
+pub returns : goal.returns
+returns c = (
+  record { definition = c.args.self.now; time = c.in-Ok.time },
+  ap (timed c.args.self.now) (sym c.in-Ok.ensures),
+  refl,
+  record { kind = refl; size = c.size.ensures; texts = c.texts.ensures },
+)
