@@ -2,6 +2,7 @@
 use Rattle.std.proofs.Common.{◌≡◌, ℕ, ◌+◌, ◌<◌, List, [], ◌∷◌, length, slice_get, nat_lt, cond, position, nat_eq, unwrap_or, Bool, true, false, Option, Some, None, is_some, is_none, IfSome, Result, Ok, Err, refl, sym, ◌∙◌, ap, subst, arith}
 use Rattle.std.specs.List.{AllByRecursion, find, position_or_len}
 use Rattle.std.specs.Map.{lookup}
+use Rattle.indexmap.specs.IndexMap.{insert_entry}
 use Rattle.std.specs.Option.{IsSome, option_and_then, option_or}
 use Rattle.std.specs.Result.{is_ok, result_unwrap_or, IfOk}
 use Rattle.std.proofs.lemmas.Bool.{true≢false, ltb-true}
@@ -16,11 +17,13 @@ use Rattle.paje_defs.specs.declared.definition.Definition.{Definition}
 use Rattle.paje_defs.specs.declared.event_fault.EventFault.{EventFault}
 use Rattle.paje_defs.specs.declared.event_fault.EventFault.TheVariants as faults
 use Rattle.paje_defs.specs.declared.fields.Fields.{Fields}
-use Rattle.paje_defs.specs.Definition.{IsWhole, is_named, place_of, place_of_name}
+use Rattle.paje_defs.specs.declared.texts.Texts.{Texts}
+use Rattle.paje_defs.specs.Definition.{AreWhole, IsWhole, is_named, place_of, place_of_name}
 use Rattle.paje_defs.specs.Numbers.{event_number_of}
 use Rattle.paje_defs.specs.Role.{first_name, needed, second_name}
 use Rattle.paje_defs.specs.Lines.{definition_of}
-use Rattle.paje_defs.specs.Events.{Event, HasNeeded, RolesStand, Tells, event_numbered, event_of, event_under, role_text, text_at, text_of, time_of_text, timed}
+use Rattle.paje_defs.specs.Events.{Event, RolesStand, Tells, event_numbered, event_of, event_under, role_text, text_at, time_of_text, timed}
+use Rattle.paje_defs.specs.Texts.{HasNeeded, text_of}
 
 -- ---- where a field stands
 
@@ -101,31 +104,34 @@ roles_stand entries words (Ok f) (told, wanted, time, are) e is = λ role.
 
 -- ---- the roles that the event needs
 
-lookup_whole : (entries : List (ℕ × Definition)) (test : ℕ → Bool) (d : Definition) → AllByRecursion (λ entry. IsWhole entry.1) entries → lookup test entries ≡ Some d → IsWhole d
-lookup_whole [] test d whole is = absurd (true≢false (sym (ap is_some is)))
-lookup_whole (entry ∷ entries) test d whole is = by_test (test entry.0) is (lookup_whole entries test d whole.1)
+pub lookup_whole : (entries : List (ℕ × Definition)) (test : ℕ → Bool) → AreWhole entries → IfSome (lookup test entries) IsWhole
+lookup_whole [] test whole = tt
+lookup_whole (entry ∷ entries) test whole = by_test (test entry.0) (lookup_whole entries test whole.1)
   where
-    by_test : (b : Bool) → cond b (Some entry.1) (lookup test entries) ≡ Some d → (lookup test entries ≡ Some d → IsWhole d) → IsWhole d
-    by_test true e later = subst IsWhole (ap (λ o. unwrap_or o d) e) whole.0
-    by_test false e later = later e
+    by_test : (b : Bool) → IfSome (lookup test entries) IsWhole → IfSome (cond b (Some entry.1) (lookup test entries)) IsWhole
+    by_test true later = whole.0
+    by_test false later = later
 
-none_missing : (event : EventName) (fields : List Field) (f : Fields) (asked : List Role) → ((role : Role) → is_some (text_of f.texts role) ≡ is_some (place_of event fields role))
-    → find (λ role. is_none (place_of event fields role)) asked ≡ None → AllByRecursion (λ role. IsSome (text_of f.texts role)) asked
-none_missing event fields f [] stand none = tt
-none_missing event fields f (role ∷ asked) stand none = by_place (place_of event fields role) (stand role) none (none_missing event fields f asked stand)
+pub insert_whole : (entries : List (ℕ × Definition)) (number : ℕ) (d : Definition) → AreWhole entries → IsWhole d → AreWhole (insert_entry nat_eq entries number d)
+insert_whole [] number d whole is = (is, tt)
+insert_whole (entry ∷ entries) number d whole is = by_test (nat_eq number entry.0) (insert_whole entries number d whole.1 is)
   where
-    by_place : (place : Option ℕ) → is_some (text_of f.texts role) ≡ is_some place → cond (is_none place) (Some role) (find (λ role. is_none (place_of event fields role)) asked) ≡ None
-        → (find (λ role. is_none (place_of event fields role)) asked ≡ None → AllByRecursion (λ role. IsSome (text_of f.texts role)) asked)
-        → AllByRecursion (λ role. IsSome (text_of f.texts role)) (role ∷ asked)
-    by_place None stands e later = absurd (true≢false (ap is_some e))
+    by_test : (b : Bool) → AreWhole (insert_entry nat_eq entries number d) → AreWhole (cond b ((entry.0, d) ∷ entries) (entry ∷ insert_entry nat_eq entries number d))
+    by_test true later = (is, whole.1)
+    by_test false later = (whole.0, later)
+
+none_missing : (event : EventName) (fields : List Field) (t : Texts) (asked : List Role) → ((role : Role) → is_some (text_of t role) ≡ is_some (place_of event fields role))
+    → is_some (find (λ role. is_none (place_of event fields role)) asked) ≡ false → AllByRecursion (λ role. IsSome (text_of t role)) asked
+none_missing event fields t [] stand none = tt
+none_missing event fields t (role ∷ asked) stand none = by_place (place_of event fields role) (stand role) none (none_missing event fields t asked stand)
+  where
+    by_place : (place : Option ℕ) → is_some (text_of t role) ≡ is_some place → is_some (cond (is_none place) (Some role) (find (λ role. is_none (place_of event fields role)) asked)) ≡ false
+        → (is_some (find (λ role. is_none (place_of event fields role)) asked) ≡ false → AllByRecursion (λ role. IsSome (text_of t role)) asked)
+        → AllByRecursion (λ role. IsSome (text_of t role)) (role ∷ asked)
+    by_place None stands e later = absurd (true≢false e)
     by_place (Some at) stands e later = (stands, later e)
 
-pub needed_stand : (entries : List (ℕ × Definition)) (words : List (List ℕ)) (r : Result Fields EventFault) → AllByRecursion (λ entry. IsWhole entry.1) entries
-    → Tells words r (event_of entries words) → IfOk r HasNeeded
-needed_stand entries words (Err f) whole tells = tt
-needed_stand entries words (Ok f) whole (e, wanted, time, are) =
-    let found = event_found entries words e wanted in
-    let d = e.definition in
-    subst (λ kind. AllByRecursion (λ role. IsSome (text_of f.texts role)) (needed kind)) (sym are.kind)
-    (none_missing d.event d.fields f (needed d.event) (roles_stand entries words (Ok f) (e, wanted, time, are) e wanted)
-    (lookup_whole entries (λ k. nat_eq found.number k) d whole found.found))
+pub has_needed : (d : Definition) (words : List (List ℕ)) (t : Texts) → ((role : Role) → text_of t role ≡ role_text d words role) → length d.fields < length words → IsWhole d → HasNeeded d.event t
+has_needed d words t texts enough whole =
+    none_missing d.event d.fields t (needed d.event)
+    (λ role. ap is_some (texts role) ∙ text_stands words (length d.fields) (place_of d.event d.fields role) enough (place_within d.event d.fields role)) whole

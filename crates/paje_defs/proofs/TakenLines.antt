@@ -12,7 +12,7 @@ use Rattle.paje_defs.specs.declared.definition.Definition.{Definition}
 use Rattle.paje_defs.specs.declared.begun.Begun.{Begun}
 use Rattle.paje_defs.specs.declared.def_fault.DefFault.{DefFault}
 use Rattle.paje_defs.specs.declared.def_fault.DefFault.TheVariants.{DoubleNumber, MissingField, Nested, Shape, UnknownName}
-use Rattle.paje_defs.specs.Definition.{IsWhole, missing}
+use Rattle.paje_defs.specs.Definition.{missing}
 use Rattle.paje_defs.specs.Lines.{Line, Placed, begin_reason, begins, begun_in, complete_in, defined_by, defined_event, defined_number, definition_of, definitions_of_lines, ended_at, end_reason, ends, entry_of, field_of, field_reason, first_line, first_of, placed_behind, reason, reason_at, taken, when}
 use Rattle.paje_defs.specs.Table.{grown}
 use Rattle.paje_defs.proofs.OneMoreLine.{begun-more, begun_after, complete-more}
@@ -116,37 +116,3 @@ keeps_fresh before line none fresh =
 
 pub taken_fresh : (lines : List Line) → IsFresh (taken lines)
 taken_fresh lines = taken_keeps IsFresh keeps_fresh tt lines
-
--- ---- each complete definition is whole
-
-abbrev pub AreWhole : List (ℕ × Definition) → Type 0
-AreWhole entries = AllByRecursion (λ entry. IsWhole entry.1) entries
-
-one_more_whole : (entries : List (ℕ × Definition)) (more : Option (ℕ × Definition)) → AreWhole entries → IfSome more (λ entry. IsWhole entry.1) → AreWhole (entries ++ option_to_list more)
-one_more_whole [] None whole one = tt
-one_more_whole [] (Some entry) whole one = (one, tt)
-one_more_whole (entry ∷ entries) more whole one = (whole.0, one_more_whole entries more whole.1 one)
-
-role_none : (o : Option Role) → first_of (option_map (λ role. MissingField role) o ∷ []) ≡ None → o ≡ None
-role_none None e = refl
-role_none (Some role) e = absurd (true≢false (ap is_some e))
-
-ended_whole : (begun : Option Begun) → end_reason begun ≡ None → IfSome {T = ℕ × Definition} (option_map entry_of begun) (λ entry. IsWhole entry.1)
-ended_whole None e = tt
-ended_whole (Some b) e = role_none (missing b.definition.event b.definition.fields) e
-
-keeps_whole : Keeps (λ lines. AreWhole (complete_in lines))
-keeps_whole before line none whole =
-    subst AreWhole (sym (complete-more before line))
-    (one_more_whole (complete_in before) (ended_at (record { before = before; line = line })) whole
-    (by (begins line.words) (ends line.words) (not_both line.words) none))
-  where
-    by : (b e : Bool) → (b ≡ true → e ≡ true → ⊥)
-        → cond b (begin_reason (complete_in before) (begun_in before) line.words) (cond e (end_reason (begun_in before)) (field_reason (begun_in before) line.words)) ≡ None
-        → IfSome {T = ℕ × Definition} (cond e (option_map entry_of (begun_in before)) None) (λ entry. IsWhole entry.1)
-    by b false apart none = tt
-    by false true apart none = ended_whole (begun_in before) none
-    by true true apart none = absurd (apart refl refl)
-
-pub complete_whole : (lines : List Line) → AreWhole (definitions_of_lines lines).complete
-complete_whole lines = taken_keeps (λ lines. AreWhole (complete_in lines)) keeps_whole tt lines

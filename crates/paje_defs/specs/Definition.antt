@@ -1,7 +1,8 @@
 -- Which field of a definition has which role.
-use Rattle.std.specs.Prelude.{◌≡◌, ℕ, ◌==◌, List, Bool, Option, None, position, is_none}
-use Rattle.std.specs.Option.{option_and_then, option_or}
-use Rattle.std.specs.List.{find}
+use Rattle.std.proofs.Math.Bool.{Bool-set}
+use Rattle.std.specs.Prelude.{ℕ, ◌==◌, List, Bool, Option, position, is_none}
+use Rattle.std.specs.Option.{IsNone, option_and_then, option_or}
+use Rattle.std.specs.List.{AllByRecursion, AllByRecursion-prop, find}
 use Rattle.paje_defs.specs.declared.event_name.EventName.{EventName}
 use Rattle.paje_defs.specs.declared.field_name.FieldName.{FieldName}
 use Rattle.paje_defs.specs.declared.role.Role.{Role}
@@ -29,4 +30,11 @@ missing event fields = find (λ role. is_none (place_of event fields role)) (nee
 
 -- each role that its event needs has a field
 abbrev pub IsWhole : Definition → Type 0
-IsWhole d = missing d.event d.fields ≡ None
+IsWhole d = IsNone (missing d.event d.fields)
+
+-- so has each of these definitions
+abbrev pub AreWhole : List (ℕ × Definition) → Type 0
+AreWhole entries = AllByRecursion (λ entry. IsWhole entry.1) entries
+
+pub AreWhole-prop : (entries : List (ℕ × Definition)) → IsProp (AreWhole entries)
+AreWhole-prop entries = AllByRecursion-prop (λ entry. IsWhole entry.1) (λ entry. Bool-set _ _) entries

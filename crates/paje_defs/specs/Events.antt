@@ -14,11 +14,10 @@ use Rattle.paje_defs.specs.declared.field.Field.{Field}
 use Rattle.paje_defs.specs.declared.definition.Definition.{Definition}
 use Rattle.paje_defs.specs.declared.event_fault.EventFault.{EventFault}
 use Rattle.paje_defs.specs.declared.event_fault.EventFault.TheVariants as faults
-use Rattle.paje_defs.specs.declared.texts.Texts.{Texts}
 use Rattle.paje_defs.specs.declared.fields.Fields.{Fields}
 use Rattle.paje_defs.specs.Numbers.{event_number_of, size_of}
 use Rattle.paje_defs.specs.Definition.{place_of}
-use Rattle.paje_defs.specs.Role.{needed}
+use Rattle.paje_defs.specs.Texts.{text_of}
 use Rattle.paje_defs.specs.Lines.{definition_of}
 
 -- the text of the field at a place: the first token is the number
@@ -84,20 +83,6 @@ event_of entries words = event_numbered entries words (option_and_then event_num
 
 -- ---- what a call gives
 
-abbrev pub text_of : Texts → Role → Option (List ℕ)
-text_of t roles.Time = option_copied t.time
-text_of t roles.Alias = option_copied t.alias
-text_of t roles.Kind = option_copied t.kind
-text_of t roles.Name = option_copied t.name
-text_of t roles.Holder = option_copied t.holder
-text_of t roles.Value = option_copied t.value
-text_of t roles.Key = option_copied t.key
-text_of t roles.FromKind = option_copied t.from_kind
-text_of t roles.ToKind = option_copied t.to_kind
-text_of t roles.From = option_copied t.from
-text_of t roles.To = option_copied t.to
-text_of t roles.Size = option_copied t.size
-
 -- the fields are those of an event with these words
 pub record AreFields (words : List (List ℕ)) (d : Definition) (f : Fields) : Type 0 where
   pub kind : f.kind ≡ d.event
@@ -111,7 +96,3 @@ Tells words r wanted = MatchResult r (λ f. (e : Event) × (wanted ≡ Ok e) × 
 -- a role has a text exactly where the definition has a field of it
 abbrev pub RolesStand : Definition → Fields → Type 0
 RolesStand d f = (role : Role) → is_some (text_of f.texts role) ≡ is_some (place_of d.event d.fields role)
-
--- each role that the event needs has a text
-abbrev pub HasNeeded : Fields → Type 0
-HasNeeded f = AllByRecursion (λ role. IsSome (text_of f.texts role)) (needed f.kind)

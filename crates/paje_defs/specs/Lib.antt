@@ -8,4 +8,5 @@ pub mod Numbers
 pub mod Role
 pub mod Rows
 pub mod Table
+pub mod Texts
 pub mod Words

@@ -1,10 +1,11 @@
-ghost use Rattle.std.specs.Prelude.{◌≡◌, List, length, IfOk, Ok};
+ghost use Rattle.std.specs.Prelude.{◌≡◌, ◌<◌, length, IfOk, Ok};
 ghost use Rattle.std.specs.Option.{option_copied};
 ghost use Rattle.paje_lex.specs.LineGrammar.{StandIn};
 ghost use Rattle.paje_defs.specs.declared.role.Role.{Role};
 ghost use Rattle.paje_defs.specs.Words.{words_in, words_of};
-ghost use Rattle.paje_defs.specs.Events.{Event, HasNeeded, RolesStand, Tells, event_of, message_size, role_text, size_in, text_of, timed, time_of_text};
-ghost use Rattle.paje_defs.specs.Lines.{Line, definitions_of_lines};
+ghost use Rattle.paje_defs.specs.Events.{Event, RolesStand, Tells, event_of, message_size, role_text, size_in, timed, time_of_text};
+ghost use Rattle.paje_defs.specs.Definition.{IsWhole};
+ghost use Rattle.paje_defs.specs.Texts.{text_of};
 ghost use Rattle.paje_defs.specs.Table.{definitions_of};
 
 use crate::definition::Definition;
@@ -87,6 +88,8 @@ impl Definition {
 
     /// What an event line of this definition tells.
     fn read<'a>(&self, words: &Words<'a, '_>) -> Result<Fields<'a>, EventFault>
+        requires whole { IsWhole self.now }
+        requires enough { length self.now.fields < length (words_in words.now) }
         ensures { Tells (words_in words.now) result
             (timed self.now (time_of_text (role_text self.now (words_in words.now) Role.Time))) }
     {
@@ -137,8 +140,6 @@ impl DefTable {
         // A role has a text exactly where the definition of the line has a field of it.
         ensures stand { (event : Event) → event_of (definitions_of self.now).complete (words_of line.now tokens.now) ≡ Ok event
             → IfOk result (RolesStand event.definition) }
-        // Under the definitions of lines, each role that the event needs has a text.
-        ensures needed { (lines : List Line) → definitions_of self.now ≡ definitions_of_lines lines → IfOk result HasNeeded }
     {
         self.read_event(line, tokens)
     }

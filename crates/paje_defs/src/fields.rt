@@ -1,18 +1,19 @@
 ghost use Rattle.std.specs.Prelude.{◌≡◌};
 ghost use Rattle.std.specs.Option.{option_copied};
-ghost use Rattle.paje_defs.specs.Events.{text_of};
+ghost use Rattle.paje_defs.specs.Texts.{HasNeeded, HasNeeded-prop, text_of};
 
 use crate::event_name::EventName;
 use crate::role::Role;
 use crate::texts::Texts;
 
-/// What an event line tells.
+/// What an event line tells. Each role that its event needs has a text.
 #[derive(Clone, Copy, Debug)]
 pub struct Fields<'a> {
     pub(crate) kind: EventName,
     pub(crate) time: u64,
     pub(crate) size: u64,
     pub(crate) texts: Texts<'a>,
+    ghost needed: { HasNeeded kind texts } by { HasNeeded-prop kind texts },
 }
 
 impl<'a> Fields<'a> {

@@ -1,10 +1,8 @@
-ghost use Rattle.std.specs.Prelude.{◌≡◌, List, length, is_some, Some, Err, []};
+ghost use Rattle.std.specs.Prelude.{◌≡◌, IfSome, List, length, is_some, Some, Err, []};
 ghost use Rattle.std.specs.Option.{option_copied};
 ghost use Rattle.paje_lex.specs.LineGrammar.{StandIn};
 ghost use Rattle.paje_defs.specs.declared.def_fault.DefFault.{DefFault};
-ghost use Rattle.paje_defs.specs.Words.{words_in, words_of};
-ghost use Rattle.paje_defs.specs.Lines.{Line, begin_reason, definition_of, definitions_of_lines, end_reason, field_reason, first_line, reason};
-ghost use Rattle.paje_defs.specs.Table.{Steps, TakesNext, after, after_begin, after_end, after_field, definitions_of, line_of};
+ghost use Rattle.paje_defs.specs.Definition.{AreWhole, AreWhole-prop, IsWhole};
 
 use crate::begun::Begun;
 use crate::def_fault::DefFault;
@@ -15,16 +13,21 @@ use paje_lex::Token;
 use std::alloc::Global;
 use trace_base::Seq;
 
-/// The definitions of a trace.
+/// The definitions of a trace. Each that is complete has a field of each role that its event needs.
 #[derive(Drop)]
 pub struct DefTable {
     alloc: Global,
     complete: IndexMap<u32, Definition>,
     begun: Option<Begun>,
     fault: Option<DefFault>,
+    ghost whole: { AreWhole complete.entries } by { AreWhole-prop complete.entries },
 }
 
 impl DefTable {
+    ghost use Rattle.paje_defs.specs.Words.{words_in, words_of};
+    ghost use Rattle.paje_defs.specs.Lines.{Line, begin_reason, definition_of, definitions_of_lines, end_reason, field_reason, first_line, reason};
+    ghost use Rattle.paje_defs.specs.Table.{Steps, TakesNext, after, after_begin, after_end, after_field, definitions_of, line_of};
+
     /// No definitions. It takes no memory.
     pub fn new(alloc: Global) -> DefTable
         ensures { definitions_of result ≡ definitions_of_lines [] }
@@ -46,7 +49,8 @@ impl DefTable {
 
     /// The definition of a number.
     pub(crate) fn definition(&self, number: u32) -> Option<&Definition>
-        ensures { option_copied result ≡ definition_of (definitions_of self.now).complete number }
+        ensures found { option_copied result ≡ definition_of (definitions_of self.now).complete number }
+        ensures whole { IfSome (option_copied result) IsWhole }
     {
         self.complete.get(&number)
     }

@@ -1,6 +1,6 @@
 ghost use Rattle.std.specs.Prelude.{◌≡◌};
 ghost use Rattle.std.specs.Option.{option_copied};
-ghost use Rattle.paje_defs.specs.Events.{text_of};
+ghost use Rattle.paje_defs.specs.Texts.{text_of};
 
 use crate::role::Role;
 

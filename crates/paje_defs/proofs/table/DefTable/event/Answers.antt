@@ -1,15 +1,8 @@
-use Rattle.std.proofs.Common.{sym, subst}
 use Rattle.paje_defs.specs.Words.{words_of}
 use Rattle.paje_defs.specs.Table.{definitions_of}
-use Rattle.paje_defs.proofs.EventLaws.{roles_stand, needed_stand}
-use Rattle.paje_defs.proofs.TakenLines.{AreWhole, complete_whole}
+use Rattle.paje_defs.proofs.EventLaws.{roles_stand}
 use Rattle.paje_defs.proofs.table.DefTable.event.Goals as goal
 
 pub returns-clause-stand : goal.returns-clause-stand
 returns-clause-stand c event is =
     roles_stand (definitions_of c.args.self.now).complete (words_of c.args.line.now c.args.tokens.now) c.read_event.result c.read_event.ensures event is
-
-pub returns-clause-needed : goal.returns-clause-needed
-returns-clause-needed c lines is =
-    needed_stand (definitions_of c.args.self.now).complete (words_of c.args.line.now c.args.tokens.now) c.read_event.result
-    (subst (λ d. AreWhole d.complete) (sym is) (complete_whole lines)) c.read_event.ensures
