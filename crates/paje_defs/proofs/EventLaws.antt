@@ -105,6 +105,7 @@ roles_stand entries words (Ok f) (told, wanted, time, are) e is = λ role.
 -- ---- the roles that the event needs
 
 pub lookup_whole : (entries : List (ℕ × Definition)) (test : ℕ → Bool) → AreWhole entries → IfSome (lookup test entries) IsWhole
+unfolding AreWhole
 lookup_whole [] test whole = tt
 lookup_whole (entry ∷ entries) test whole = by_test (test entry.0) (lookup_whole entries test whole.1)
   where
@@ -113,6 +114,7 @@ lookup_whole (entry ∷ entries) test whole = by_test (test entry.0) (lookup_who
     by_test false later = later
 
 pub insert_whole : (entries : List (ℕ × Definition)) (number : ℕ) (d : Definition) → AreWhole entries → IsWhole d → AreWhole (insert_entry nat_eq entries number d)
+unfolding AreWhole
 insert_whole [] number d whole is = (is, tt)
 insert_whole (entry ∷ entries) number d whole is = by_test (nat_eq number entry.0) (insert_whole entries number d whole.1 is)
   where

@@ -33,8 +33,9 @@ abbrev pub IsWhole : Definition → Type 0
 IsWhole d = IsNone (missing d.event d.fields)
 
 -- so has each of these definitions
-abbrev pub AreWhole : List (ℕ × Definition) → Type 0
+unfoldable pub AreWhole : List (ℕ × Definition) → Type 0
 AreWhole entries = AllByRecursion (λ entry. IsWhole entry.1) entries
 
 pub AreWhole-prop : (entries : List (ℕ × Definition)) → IsProp (AreWhole entries)
+unfolding AreWhole
 AreWhole-prop entries = AllByRecursion-prop (λ entry. IsWhole entry.1) (λ entry. Bool-set _ _) entries

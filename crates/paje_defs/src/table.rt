@@ -29,6 +29,7 @@ impl DefTable {
     ghost use Rattle.paje_defs.specs.Table.{Steps, TakesNext, after, after_begin, after_end, after_field, definitions_of, line_of};
 
     /// No definitions. It takes no memory.
+    #[tactic(auto, unfolding(crate::specs::Definition::AreWhole))]
     pub fn new(alloc: Global) -> DefTable
         ensures { definitions_of result ≡ definitions_of_lines [] }
     {
