@@ -1,5 +1,5 @@
 -- Sums and folds over a list that is made from another one, one item more.
-use Rattle.std.proofs.Common.{◌≡◌, ℕ, ◌+◌, ◌<◌, zero, suc, add-zero, add-one, count_by, List, [], ◌∷◌, ◌++◌, length, take, get_or, map, fold, filter, sum_by, Bool, true, false, cond, refl, ap, sym, arith, ◌∙◌, zero-add, append-nil}
+use Rattle.std.proofs.Common.{◌≡◌, ℕ, ◌+◌, ◌<◌, count_by, List, [], ◌∷◌, ◌++◌, length, take, get_or, map, fold, filter, sum_by, Bool, true, false, cond, refl, ap, arith, ◌∙◌, zero-add, append-nil}
 use Rattle.std.proofs.lemmas.List.{take_more}
 use Rattle.std.specs.List.{range_with_len}
 use Rattle.std.proofs.lemmas.List.FromFn.{filter_of_map_range_with_len_more, map-range_with_len_more}

@@ -1,5 +1,5 @@
 -- The pairs that have a message, among all pairs of small numbers, after one message more.
-use Rattle.std.proofs.Common.{◌≡◌, ℕ, ◌+◌, ◌<◌, ◌≤◌, ◌||◌, ◌&&◌, ◌==◌, zero, suc, max, Bool, true, false, cond, List, [], ◌∷◌, ◌++◌, drop, filter, fold, map, take, subst, append_assoc, refl, ap, sym, ◌∙◌, arith, inl, inr}
+use Rattle.std.proofs.Common.{◌≡◌, ℕ, ◌+◌, ◌<◌, ◌≤◌, ◌||◌, ◌&&◌, ◌==◌, zero, suc, max, Bool, true, false, cond, List, [], ◌∷◌, ◌++◌, drop, filter, fold, map, take, subst, append_assoc, refl, ap, sym, ◌∙◌, arith}
 use Rattle.std.specs.Cmp.{IsTotalOrder, nat_cmp_is, unsigned_tied}
 use Rattle.std.specs.List.{AllByRecursion, flat_map, list_any, range_with_len}
 use Rattle.std.specs.List.Sorted.{IsStrictlySortedBy}

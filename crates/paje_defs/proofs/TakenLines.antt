@@ -1,19 +1,17 @@
 -- What holds of the lines before the first refused one.
 use Rattle.std.proofs.Common.{◌≡◌, ℕ, List, [], ◌∷◌, ◌++◌, Bool, true, false, Option, Some, None, IfSome, codes, slice_get, cond, is_none, is_some, refl, sym, ◌∙◌, ap, subst}
-use Rattle.std.specs.List.{AllByRecursion, find}
+use Rattle.std.specs.List.{find}
 use Rattle.std.specs.Option.{option_and_then, option_map, option_map_or, option_to_list, option_zip}
 use Rattle.std.specs.Str.{bytes_eq}
 use Rattle.std.proofs.lemmas.Bool.{true≢false}
 use Rattle.std.proofs.lemmas.List.{append-nil, append_assoc}
 use Rattle.std.proofs.lemmas.Slice.Eq.{bytes_eq-Decides}
 use Rattle.paje_defs.specs.declared.event_name.EventName.{EventName}
-use Rattle.paje_defs.specs.declared.role.Role.{Role}
 use Rattle.paje_defs.specs.declared.definition.Definition.{Definition}
 use Rattle.paje_defs.specs.declared.begun.Begun.{Begun}
 use Rattle.paje_defs.specs.declared.def_fault.DefFault.{DefFault}
-use Rattle.paje_defs.specs.declared.def_fault.DefFault.TheVariants.{DoubleNumber, MissingField, Nested, Shape, UnknownName}
-use Rattle.paje_defs.specs.Definition.{missing}
-use Rattle.paje_defs.specs.Lines.{Line, Placed, begin_reason, begins, begun_in, complete_in, defined_by, defined_event, defined_number, definition_of, definitions_of_lines, ended_at, end_reason, ends, entry_of, field_of, field_reason, first_line, first_of, placed_behind, reason, reason_at, taken, when}
+use Rattle.paje_defs.specs.declared.def_fault.DefFault.TheVariants.{DoubleNumber, Nested, Shape, UnknownName}
+use Rattle.paje_defs.specs.Lines.{Line, Placed, begin_reason, begins, begun_in, complete_in, defined_by, defined_event, defined_number, definition_of, end_reason, ends, entry_of, field_of, field_reason, first_line, first_of, placed_behind, reason, reason_at, taken, when}
 use Rattle.paje_defs.specs.Table.{grown}
 use Rattle.paje_defs.proofs.OneMoreLine.{begun-more, begun_after, complete-more}
 

@@ -1,7 +1,6 @@
 -- What an event line tells under the definitions.
 use Rattle.std.specs.Prelude.{◌≡◌, ℕ, ◌+◌, List, length, slice_get, is_some, Option, Some, None, Ok, Err, Result, MatchResult, if◌then◌else◌, nat_lt}
-use Rattle.std.specs.List.{AllByRecursion}
-use Rattle.std.specs.Option.{option_and_then, option_copied, IsSome}
+use Rattle.std.specs.Option.{option_and_then}
 use Rattle.paje_lex.specs.declared.date_fault.DateFault.{DateFault}
 use Rattle.paje_lex.specs.DateReading.{date_of}
 use Rattle.paje_defs.specs.declared.event_name.EventName.{EventName}
