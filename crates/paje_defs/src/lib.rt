@@ -26,8 +26,8 @@ pub use field_type::FieldType;
 pub use fields::Fields;
 pub use role::Role;
 pub use rows::{
-    begun_rows, definition_rows, event_rows, first_refused_rows, missing_rows, number_rows,
-    order_rows, place_rows, refusal_rows,
+    begun_rows, definition_rows, event_rows, first_refused_rows, missing_rows, name_rows,
+    number_rows, order_rows, place_rows, refusal_rows,
 };
 pub use table::DefTable;
 

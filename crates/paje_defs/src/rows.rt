@@ -1,7 +1,9 @@
 //! Worked rows: what the definitions give on lines whose meaning is known.
 
 ghost use Rattle.std.specs.Prelude.{◌≡◌, [], ◌∷◌, ◌++◌, map, codes, Some, None, Ok, Err};
-ghost use Rattle.paje_defs.specs.EventName.{all_events};
+ghost use Rattle.paje_defs.specs.EventName.{all_events, event_name_of, event_text};
+ghost use Rattle.paje_defs.specs.FieldName.{all_fields, field_name_of, field_text};
+ghost use Rattle.paje_defs.specs.FieldType.{all_types, type_of, type_text};
 ghost use Rattle.paje_defs.specs.Definition.{missing, place_of};
 ghost use Rattle.paje_defs.specs.Numbers.{size_of, event_number_of};
 ghost use Rattle.paje_defs.specs.Rows.{defined, definitions_in, field_as, event_definitions, refused_line, told_of};
@@ -13,6 +15,16 @@ use crate::field_name::FieldName;
 use crate::field_type::FieldType;
 use crate::role::Role;
 use paje_lex::DateFault;
+
+/// Each name is read as what it is written for, and no other is.
+pub fn name_rows()
+    ensures events { map (λ e. event_name_of (event_text e)) all_events ≡ map (λ e. Some e) all_events }
+    ensures fields { map (λ f. field_name_of (field_text f)) all_fields ≡ all_fields }
+    ensures types { map (λ t. type_of (type_text t)) all_types ≡ map (λ t. Some t) all_types }
+    ensures other_events { map event_name_of (codes "PajeStrange" ∷ codes "PushState" ∷ codes "pajepushstate" ∷ codes "PajePushState2" ∷ [] ∷ []) ≡ None ∷ None ∷ None ∷ None ∷ None ∷ [] }
+    ensures other_fields { map field_name_of (codes "Line" ∷ codes "time" ∷ [] ∷ []) ≡ FieldName.Other ∷ FieldName.Other ∷ FieldName.Other ∷ [] }
+    ensures other_types { map type_of (codes "Date" ∷ codes "time" ∷ [] ∷ []) ≡ None ∷ None ∷ None ∷ [] }
+{}
 
 /// Six definitions, one after another: none is left open and no line is refused.
 pub fn definition_rows()
