@@ -91,7 +91,7 @@ impl EventName {
     }
 
     /// The event of a name in the text.
-    pub fn from_text(text: &[u8]) -> Option<EventName>
+    pub(crate) fn from_text(text: &[u8]) -> Option<EventName>
         ensures { result ≡ event_name_of text.now }
     {
         EventName::ALL

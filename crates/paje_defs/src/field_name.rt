@@ -100,7 +100,7 @@ impl FieldName {
     }
 
     /// The name in the text, `Other` where it has no role.
-    pub fn from_text(text: &[u8]) -> FieldName
+    pub(crate) fn from_text(text: &[u8]) -> FieldName
         ensures { result ≡ field_name_of text.now }
     {
         match FieldName::known(text) {

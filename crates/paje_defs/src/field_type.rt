@@ -43,7 +43,7 @@ impl FieldType {
     }
 
     /// The type of a name in the text.
-    pub fn from_text(text: &[u8]) -> Option<FieldType>
+    pub(crate) fn from_text(text: &[u8]) -> Option<FieldType>
         ensures { result ≡ type_of text.now }
     {
         FieldType::ALL

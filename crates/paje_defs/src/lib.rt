@@ -21,8 +21,6 @@ mod words;
 pub use def_fault::DefFault;
 pub use event_fault::EventFault;
 pub use event_name::EventName;
-pub use field_name::FieldName;
-pub use field_type::FieldType;
 pub use fields::Fields;
 pub use role::Role;
 pub use rows::{
