@@ -24,7 +24,7 @@ TakesNext before line new r = MatchResult r
     (λ f. ((f ≡ Memory) × (refusal (before ++ line ∷ []) ≡ None) × (new ≡ definitions_of_lines before))
     ⊎ ((new ≡ definitions_of_lines (before ++ line ∷ [])) × (new.fault ≡ Some f)))
 
--- ---- what a call of its own does
+-- ---- what its private calls do
 
 -- Where there is no reason against it, a step gives what is wanted, or memory ran out. A refusal changes nothing.
 abbrev pub Steps : {U S : Type 0} → S → S → Result U DefFault → Option DefFault → S → Type 0
