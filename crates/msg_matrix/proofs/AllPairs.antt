@@ -6,6 +6,7 @@ use Rattle.std.specs.List.Sorted.{IsStrictlySortedBy}
 use Rattle.std.specs.Ordering.{eq_by_cmp, is_eq, is_lt, nat_cmp, ordering_reverse, ordering_then}
 use Rattle.std.specs.declared.cmp.Ordering.{Ordering}
 use Rattle.std.specs.declared.cmp.Ordering.TheVariants.{Less, Equal, Greater}
+use Rattle.std.proofs.Math.Bool.{or-false}
 use Rattle.std.proofs.Math.Nat.{le-max_left, le-max_right}
 use Rattle.std.proofs.lemmas.Bool.{true≢false, cond-true, cond-false, eq-eqb, eqb-true}
 use Rattle.std.proofs.lemmas.Bool.Decides.{nat_tests}
@@ -188,15 +189,11 @@ filter_same : {K : Type 0} (f g : K → Bool) → ((q : K) → f q ≡ g q) → 
 filter_same f g h [] = refl
 filter_same f g h (q ∷ ks) = ap (λ b. cond b (q ∷ filter f ks) (filter f ks)) (h q) ∙ ap (λ qs. cond (g q) (q ∷ qs) qs) (filter_same f g h ks)
 
-or_false : (b : Bool) → b || false ≡ b
-or_false true = refl
-or_false false = refl
-
 pub push_pair : (n : ℕ) (xs : List Message) (m : Message) → m.from < n → m.to < n → put_pair (pair_of m) (with_message_below n xs) ≡ with_message_below n (xs ++ m ∷ [])
 push_pair n xs m h k =
     put_filtered pair_cmp pair_cmp-total pair_cmp-Equal (λ p. list_any (is_of p) xs) (pair_of m) (pairs_below n) (sorted_senders 0 n n) (has_sender m.from m.to 0 n n (omega arith) (omega arith) k)
     ∙ filter_same (λ q. list_any (is_of q) xs || eq_by_cmp pair_cmp (pair_of m) q) (λ q. list_any (is_of q) (xs ++ m ∷ []))
-    (λ q. ap (λ b. list_any (is_of q) xs || b) (pair_tied (pair_of m) q ∙ sym (or_false (is_of q m))) ∙ sym (list_any-append (is_of q) xs (m ∷ []))) (pairs_below n)
+    (λ q. ap (λ b. list_any (is_of q) xs || b) (pair_tied (pair_of m) q ∙ sym (or-false (is_of q m))) ∙ sym (list_any-append (is_of q) xs (m ∷ []))) (pairs_below n)
 
 -- ---- the greatest container
 
