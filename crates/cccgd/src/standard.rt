@@ -3,8 +3,8 @@ ghost use Rattle.std.specs.Prelude.{◌≡◌, None};
 use std::io::{Read, Write};
 use trace_base::{Faults, ReadAnswer, Sink, Source, WriteAnswer};
 
-/// A reader of the system as a source. What it has left isn't told. An interrupted read counts as a fault, like any
-/// other error.
+/// A reader of the system as a source. What it has left isn't told. An interrupted read counts as a fault,
+/// like any other error.
 #[derive(Drop)]
 pub struct StandardInput<R: Read> {
     reader: R,
@@ -45,7 +45,8 @@ impl<R: Read> Source for StandardInput<R> {
     }
 }
 
-/// A writer of the system as a sink. What it holds isn't told. A write that takes nothing, or is interrupted, is a fault.
+/// A writer of the system as a sink. What it holds isn't told. A write that takes nothing, or is interrupted,
+/// is a fault.
 #[derive(Drop)]
 pub struct StandardOutput<W: Write> {
     writer: W,

@@ -11,7 +11,8 @@ enum Step {
     Error(ErrorKind),
 }
 
-// A reader whose calls answer by these steps in order, and with no bytes after the last. It leaves the buffer as it is.
+// A reader whose calls answer by these steps in order, and with no bytes after the last. It leaves the buffer
+// as it is.
 #[derive(Drop)]
 struct FakeReader {
     steps: Vec<Step>,

@@ -1,5 +1,7 @@
 -- A test that shows a written-out stream to be legal, by computing.
-use Rattle.std.proofs.Common.{◌≡◌, ◌≢◌, ℕ, ◌+◌, ◌^◌, ◌<◌, ◌≤◌, zero, suc, List, [], ◌∷◌, length, take, get_or, filter, slice_get, Bool, true, ◌&&◌, nat_le, Some, refl, ap, sym, subst, inl, inr, arith}
+use Rattle.std.proofs.Common.{◌≡◌, ◌≢◌, ℕ, ◌+◌, ◌^◌, ◌<◌, ◌≤◌, zero, suc, List, [], ◌∷◌, length, take, get_or}
+use Rattle.std.proofs.Common.{filter, slice_get, Bool, true, ◌&&◌, nat_le, Some, refl, ap, sym, subst, inl}
+use Rattle.std.proofs.Common.{inr, arith}
 use Rattle.std.proofs.lemmas.Bool.{and_parts, leb-true, cases_eq, cases_lt, true≢false}
 use Rattle.std.proofs.lemmas.List.{take_all, get_or_default}
 use Rattle.std.proofs.lemmas.List.Sorted.{IsNonDecreasingBy-from_all_adjacent}
@@ -32,22 +34,31 @@ may_come (Leave t) stack = nat_le 1 (length stack)
 -- the parts of the test, one for each part of what a legal stream is
 pub record PassesTests (s : TrackStream) : Type 0 where
   pub in_time : nat_le s.end (2 ^ 62) ≡ true
-  pub in_order : passes_below (λ i. nat_le (get_or (moments s) i 0) (get_or (moments s) (i + 1) 0)) (length s.events + 1) ≡ true
-  pub each : passes_below (λ i. may_come (get_or s.events i (Leave 0)) (stack_after (take i s.events))) (length s.events) ≡ true
+  pub in_order : passes_below (λ i. nat_le (get_or (moments s) i 0) (get_or (moments s) (i + 1) 0))
+      (length s.events + 1) ≡ true
+  pub each : passes_below (λ i. may_come (get_or s.events i (Leave 0)) (stack_after (take i s.events)))
+      (length s.events) ≡ true
   pub all_closed : stack_after s.events ≡ []
-  pub depth : passes_below (λ i. nat_le (length (stack_after (take i s.events))) 256) (length s.events + 1) ≡ true
+  pub depth : passes_below (λ i. nat_le (length (stack_after (take i s.events))) 256) (length s.events + 1) ≡
+      true
   pub calls : nat_le (length (filter is_enter s.events)) 4194304 ≡ true
 
-rises : (s : TrackStream) → PassesTests s → (k d : ℕ) → k + 1 < length (moments s) → get_or (moments s) k d ≤ get_or (moments s) (k + 1) d
+rises : (s : TrackStream) → PassesTests s → (k d : ℕ) → k + 1 < length (moments s)
+    → get_or (moments s) k d ≤ get_or (moments s) (k + 1) d
 rises s tests k d h =
     let low : k < length s.events + 1 = omega (arith, length-moments s) in
-    let at_zero : get_or (moments s) k 0 ≤ get_or (moments s) (k + 1) 0 = leb-true _ _ (passes_below-at (λ i. nat_le (get_or (moments s) i 0) (get_or (moments s) (i + 1) 0)) (length s.events + 1) k tests.in_order low) in
+    let at_zero : get_or (moments s) k 0 ≤ get_or (moments s) (k + 1) 0 =
+    leb-true _ _ (passes_below-at (λ i. nat_le (get_or (moments s) i 0) (get_or (moments s) (i + 1) 0))
+    (length s.events + 1) k tests.in_order low) in
     rw (get_or_default (moments s) k d 0 (omega arith), get_or_default (moments s) (k + 1) d 0 h) at_zero
 
-fine_at : (s : TrackStream) → PassesTests s → (i : ℕ) (e : Event) → slice_get s.events i ≡ Some e → may_come e (stack_after (take i s.events)) ≡ true
+fine_at : (s : TrackStream) → PassesTests s → (i : ℕ) (e : Event) → slice_get s.events i ≡ Some e
+    → may_come e (stack_after (take i s.events)) ≡ true
 fine_at s tests i e h =
-    subst (λ (x : Event). may_come x (stack_after (take i s.events)) ≡ true) (get_or_from_slice_get s.events i e (Leave 0) h)
-    (passes_below-at (λ j. may_come (get_or s.events j (Leave 0)) (stack_after (take j s.events))) (length s.events) i tests.each (slice_get_within s.events i e h))
+    subst (λ (x : Event). may_come x (stack_after (take i s.events)) ≡ true)
+    (get_or_from_slice_get s.events i e (Leave 0) h)
+    (passes_below-at (λ j. may_come (get_or s.events j (Leave 0)) (stack_after (take j s.events)))
+    (length s.events) i tests.each (slice_get_within s.events i e h))
 
 not_empty : (stack : List ℕ) → nat_le 1 (length stack) ≡ true → stack ≢ []
 not_empty [] h = λ e. true≢false (sym h)
@@ -56,8 +67,14 @@ not_empty (x ∷ xs) h = λ e. cc
 depth_at : (s : TrackStream) → PassesTests s → (i : ℕ) → length (stack_after (take i s.events)) ≤ 256
 depth_at s tests i =
     elim (cases_lt i (length s.events + 1)) [
-      | inl below ↦ leb-true _ _ (passes_below-at (λ j. nat_le (length (stack_after (take j s.events))) 256) (length s.events + 1) i tests.depth below)
-      | inr past ↦ (let whole : take i s.events ≡ s.events = take_all i s.events (omega arith) in omega (arith, ap (λ (es : List Event). length (stack_after es)) whole, ap length tests.all_closed))
+      | inl below ↦ leb-true _ _ (passes_below-at (λ j. nat_le (length (stack_after (take j s.events))) 256)
+          (length s.events + 1) i tests.depth below)
+      | inr past ↦ (let whole : take i s.events ≡ s.events = take_all i s.events (omega arith)
+          in omega (
+            arith,
+            ap (λ (es : List Event). length (stack_after es)) whole,
+            ap length tests.all_closed,
+          ))
     ]
 
 pub IsLegal-from : (s : TrackStream) → PassesTests s → IsLegal s
@@ -68,18 +85,25 @@ IsLegal-from s tests = record {
   all_closed = tests.all_closed;
   depth = depth_at s tests;
   calls = leb-true _ _ tests.calls;
-  functions = λ i f t h. (leb-true _ _ (and_parts (nat_le 1 f) (nat_le f 65536) (fine_at s tests i (Enter f t) h)).0, leb-true _ _ (and_parts (nat_le 1 f) (nat_le f 65536) (fine_at s tests i (Enter f t) h)).1);
+  functions =
+      λ i f t h. (
+        leb-true _ _ (and_parts (nat_le 1 f) (nat_le f 65536) (fine_at s tests i (Enter f t) h)).0,
+        leb-true _ _ (and_parts (nat_le 1 f) (nat_le f 65536) (fine_at s tests i (Enter f t) h)).1,
+      );
 }
 
 -- the small streams of the tests are legal
 pub two_calls-legal : IsLegal two_calls
 unfolding stack_after
-two_calls-legal = IsLegal-from two_calls (record { in_time = refl; in_order = refl; each = refl; all_closed = refl; depth = refl; calls = refl })
+two_calls-legal = IsLegal-from two_calls
+    (record { in_time = refl; in_order = refl; each = refl; all_closed = refl; depth = refl; calls = refl })
 
 pub recursion-legal : IsLegal recursion
 unfolding stack_after
-recursion-legal = IsLegal-from recursion (record { in_time = refl; in_order = refl; each = refl; all_closed = refl; depth = refl; calls = refl })
+recursion-legal = IsLegal-from recursion
+    (record { in_time = refl; in_order = refl; each = refl; all_closed = refl; depth = refl; calls = refl })
 
 pub no_length-legal : IsLegal no_length
 unfolding stack_after
-no_length-legal = IsLegal-from no_length (record { in_time = refl; in_order = refl; each = refl; all_closed = refl; depth = refl; calls = refl })
+no_length-legal = IsLegal-from no_length
+    (record { in_time = refl; in_order = refl; each = refl; all_closed = refl; depth = refl; calls = refl })

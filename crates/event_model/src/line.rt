@@ -49,9 +49,9 @@ fn busiest_of(profile: &Profile) -> u32
     }
 }
 
-/// The timeline of one legal stream over [a, b) in px pixels, half open and in nanoseconds: in each pixel the function
-/// of the greatest time of its own above 0, the least number on a tie, 0 where there is none. Pixels have the same
-/// length but for rounding down. `Memory` where none was found.
+/// The timeline of one legal stream over [a, b) in px pixels, half open and in nanoseconds: in each pixel the
+/// function of the greatest time of its own above 0, the least number on a tie, 0 where there is none. Pixels
+/// have the same length but for rounding down. `Memory` where none was found.
 #[tactic(auto, unfolding(trace_base::specs::Timeline::timeline))]
 pub fn line_of(alloc: Global, s: &TrackStream, a: u64, b: u64, px: u32) -> Result<Seq<u32>, Memory>
     requires legal { IsLegal s.now }

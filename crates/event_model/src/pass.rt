@@ -1,5 +1,6 @@
 //! One pass over the events of one stream.
-ghost use Rattle.std.specs.Prelude.{◌≡◌, ◌+◌, ◌-◌, ◌^◌, ◌≤◌, min, max, fold, count_by, IfOk, OnOk, if◌then◌else◌, ◌&&◌};
+ghost use Rattle.std.specs.Prelude.{◌≡◌, ◌+◌, ◌-◌, ◌^◌, ◌≤◌, min, max, fold, count_by, IfOk, OnOk};
+ghost use Rattle.std.specs.Prelude.{if◌then◌else◌, ◌&&◌};
 ghost use Rattle.event_model.specs.Part.{has};
 ghost use Rattle.trace_base.specs.Flat.{calls_in, enters_in, function_of, is_within, time_with};
 ghost use Rattle.trace_base.specs.Paths.{calls_making};
@@ -134,7 +135,8 @@ fn begins_within(event: Event, a: u64, b: u64) -> bool
 
 /// One where the event begins a call within [a, b) after which the part runs, else none.
 fn call_into(event: Event, part: Part<'_>, stack: &[u32], a: u64, b: u64) -> u64
-    ensures exact { result ≡ (if (is_enter event && is_within a b (time_of event)) && has part.entry stack.now then 1 else 0) }
+    ensures exact { result ≡ (if (is_enter event && is_within a b (time_of event)) && has part.entry stack.now
+        then 1 else 0) }
     ensures one { result ≤ 1 }
 {
     u64::from(begins_within(event, a, b) && runs(part, stack))

@@ -45,8 +45,8 @@ fn stands(alloc: Global, s: &TrackStream, a: u64, b: u64, path: &[u32]) -> Resul
     Ok(calls > 0 || time > 0)
 }
 
-/// Adds the rows of the paths that begin with this one and are at most so many calls longer, in depth-first order.
-/// The path is as before on `Ok`.
+/// Adds the rows of the paths that begin with this one and are at most so many calls longer, in depth-first
+/// order. The path is as before on `Ok`.
 fn add_rows_under(
     alloc: Global,
     s: &TrackStream,
@@ -75,9 +75,9 @@ fn add_rows_under(
     Ok(())
 }
 
-/// The call-tree profile of one legal stream over [a, b), half open and in nanoseconds: a row for each call path under
-/// which a call began in it or took time in it, in depth-first order, siblings rising by function. `Memory` where none
-/// was found.
+/// The call-tree profile of one legal stream over [a, b), half open and in nanoseconds: a row for each call
+/// path under which a call began in it or took time in it, in depth-first order, siblings rising by function.
+/// `Memory` where none was found.
 #[tactic(auto, unfolding(trace_base::specs::Paths::paths))]
 pub fn paths_of(alloc: Global, s: &TrackStream, a: u64, b: u64) -> Result<PathProfile, Memory>
     requires legal { IsLegal s.now }

@@ -1,5 +1,7 @@
 -- The answers of a plain hall's calls, as its seat before and after tells them.
-use Rattle.std.proofs.Common.{◌≡◌, ℕ, ◌+◌, ◌-◌, ◌≤◌, Bool, true, false, cond, eqb, List, [], ◌∷◌, ◌++◌, length, Ok, refl, sym, ap, ap₂, ◌∙◌, subst, arith, length-append, Contains, inl, inr}
+use Rattle.std.proofs.Common.{◌≡◌, ℕ, ◌+◌, ◌-◌, ◌≤◌, Bool, true, false, cond, eqb, List, [], ◌∷◌, ◌++◌}
+use Rattle.std.proofs.Common.{length, Ok, refl, sym, ap, ap₂, ◌∙◌, subst, arith, length-append, Contains, inl}
+use Rattle.std.proofs.Common.{inr}
 use Rattle.std.specs.Option.{option_map_or}
 use Rattle.std.proofs.lemmas.Bool.{eq-eqb, eqb-true}
 use Rattle.trace_base.specs.declared.asks.AskIds.{AskIds}
@@ -8,7 +10,8 @@ use Rattle.trace_base.specs.declared.asks.PassState.TheVariants.{Straight, Whole
 use Rattle.trace_base.specs.declared.names.TraceInfo.{TraceInfo}
 use Rattle.trace_base.specs.declared.stream.TrackStream.{TrackStream}
 use Rattle.hall_trait.specs.Answers.{HasRoom, Admits, Keeps, EndsLoad, AreOpen, IsFirstUnknown}
-use Rattle.hall_trait.specs.History.{Entry, Opened, Published, Sealed, Dropped, Asked, opened_ids, is_open, is_loading, tracks_of, published_count}
+use Rattle.hall_trait.specs.History.{Entry, Opened, Published, Sealed, Dropped, Asked, opened_ids, is_open}
+use Rattle.hall_trait.specs.History.{is_loading, tracks_of, published_count}
 use Rattle.hall_trait.specs.Kept.{IsKept}
 use Rattle.hall_trait.specs.Loading.{pass_of, passes_of}
 use Rattle.hall_trait.specs.Pass.{state_at, pass_view, advanced, IsFresh, IsNext}
@@ -17,7 +20,8 @@ use Rattle.hall_trait.specs.PlainSeat.{plain_seat, left_in}
 use Rattle.hall_trait.specs.Seat.{PinView, PassView, Removes, Replaces}
 use Rattle.hall_trait.specs.declared.pass.LoadPass.{LoadPass}
 use Rattle.hall_trait.proofs.More.{count_more, info_more, or_none}
-use Rattle.hall_trait.proofs.Passes.{Opens, asked_keeps, published_goes_on, sealed_ends, dropped_ends, opened_opens, has_loading}
+use Rattle.hall_trait.proofs.Passes.{Opens, asked_keeps, published_goes_on, sealed_ends, dropped_ends}
+use Rattle.hall_trait.proofs.Passes.{opened_opens, has_loading}
 use Rattle.hall_trait.proofs.Steps.{makes}
 
 -- a pass of the seat, and its trace
@@ -29,7 +33,8 @@ pub record IsPassOf (entries : List Entry) (pass : LoadPass) : Type 0 where
   pub state : state_at (published_count entries pass.id) (tracks_of entries pass.id) ≡ pass.state
   pub counted : published_count entries pass.id ≤ tracks_of entries pass.id
 
-pub pass_facts : (entries : List Entry) (owed opened live : ℕ) (pass : LoadPass) → IsKept entries owed opened live → Contains (passes_of entries) (pass_view pass) → IsPassOf entries pass
+pub pass_facts : (entries : List Entry) (owed opened live : ℕ) (pass : LoadPass)
+    → IsKept entries owed opened live → Contains (passes_of entries) (pass_view pass) → IsPassOf entries pass
 pass_facts entries owed opened live pass kept has =
     let facts = has_loading entries (pass_view pass) has in
     record {
@@ -63,24 +68,34 @@ left_at n to le = go (eqb n to) refl
     go true at = omega (arith, eqb-true n to at)
     go false at = refl
 
-pub next_is_count : (entries : List Entry) (pass : LoadPass) (track : ℕ) → IsPassOf entries pass → IsNext pass track → track ≡ published_count entries pass.id
+pub next_is_count : (entries : List Entry) (pass : LoadPass) (track : ℕ) → IsPassOf entries pass
+    → IsNext pass track → track ≡ published_count entries pass.id
 next_is_count entries pass track facts next = sym (straight_at _ _ track (facts.state ∙ next))
 
-pub whole_is_all : (entries : List Entry) (pass : LoadPass) → IsPassOf entries pass → pass.state ≡ Whole → published_count entries pass.id ≡ tracks_of entries pass.id
+pub whole_is_all : (entries : List Entry) (pass : LoadPass) → IsPassOf entries pass → pass.state ≡ Whole
+    → published_count entries pass.id ≡ tracks_of entries pass.id
 whole_is_all entries pass facts whole = whole_at _ _ (facts.state ∙ whole)
 
-pub left_is_rest : (entries : List Entry) (pass : LoadPass) → IsPassOf entries pass → left_in pass.state pass.to ≡ tracks_of entries pass.id - published_count entries pass.id
+pub left_is_rest : (entries : List Entry) (pass : LoadPass) → IsPassOf entries pass
+    → left_in pass.state pass.to ≡ tracks_of entries pass.id - published_count entries pass.id
 left_is_rest entries pass facts = ap₂ left_in (sym facts.state) (sym facts.to) ∙ left_at _ _ facts.counted
 
 -- a view by its parts
 same_view : (p q : PassView) → p.id ≡ q.id → p.from ≡ q.from → p.to ≡ q.to → p.state ≡ q.state → p ≡ q
 same_view p q id from to state = λ i. record { id = id i; from = from i; to = to i; state = state i }
 
-pub opened_answer : (old new : List Entry) (owed opened live : ℕ) (pins : List PinView) (pass : LoadPass) (info : TraceInfo) → new ≡ old ++ Opened pass.id info ∷ [] → pass.id ≡ opened + 1 → pass.place ≡ length new → IsFresh pass (length info.names.tracks) → HasRoom old (length info.names.tracks + 2) → IsKept old owed opened live → Admits true (plain_seat old pins) (plain_seat new pins) info (Ok pass)
+pub opened_answer : (old new : List Entry) (owed opened live : ℕ) (pins : List PinView) (pass : LoadPass)
+    (info : TraceInfo) → new ≡ old ++ Opened pass.id info ∷ [] → pass.id ≡ opened + 1
+    → pass.place ≡ length new → IsFresh pass (length info.names.tracks)
+    → HasRoom old (length info.names.tracks + 2) → IsKept old owed opened live
+    → Admits true (plain_seat old pins) (plain_seat new pins) info (Ok pass)
 opened_answer old new owed opened live pins pass info seen next last fresh room kept =
-    let more : Opens old new pass.id info = subst (λ (es : List Entry). Opens old es pass.id info) (sym seen) (opened_opens old pass.id info kept.orderly (omega (arith, kept.given))) in
-    let tracks : tracks_of new pass.id ≡ length info.names.tracks = ap (λ o. option_map_or (λ (i : TraceInfo). length i.names.tracks) o 0) more.told in
-    let view : pass_of new pass.id ≡ pass_view pass = same_view _ _ refl (sym fresh.0) (tracks ∙ sym fresh.1) (ap₂ state_at more.count tracks ∙ sym fresh.2) in (
+    let more : Opens old new pass.id info = subst (λ (es : List Entry). Opens old es pass.id info) (sym seen)
+    (opened_opens old pass.id info kept.orderly (omega (arith, kept.given))) in
+    let tracks : tracks_of new pass.id ≡ length info.names.tracks =
+    ap (λ o. option_map_or (λ (i : TraceInfo). length i.names.tracks) o 0) more.told in
+    let view : pass_of new pass.id ≡ pass_view pass = same_view _ _ refl (sym fresh.0) (tracks ∙ sym fresh.1)
+    (ap₂ state_at more.count tracks ∙ sym fresh.2) in (
       makes old new pins pins (Opened pass.id info) pass.place seen last,
       omega (arith, kept.given, ap length more.ids, length-append (opened_ids old) (pass.id ∷ [])),
       more.told,
@@ -90,29 +105,56 @@ opened_answer old new owed opened live pins pass info seen next last fresh room 
       room,
     )
 
-pub published_answer : (old new : List Entry) (owed opened live : ℕ) (pins : List PinView) (was now : LoadPass) (track : ℕ) (s : TrackStream) (place : ℕ) → new ≡ old ++ Published was.id track s ∷ [] → place ≡ length new → now ≡ advanced was track → IsNext was track → IsKept old owed opened live → IsPassOf old was → Keeps true (plain_seat old pins) (plain_seat new pins) was now track s (Ok place)
+pub published_answer : (old new : List Entry) (owed opened live : ℕ) (pins : List PinView)
+    (was now : LoadPass) (track : ℕ) (s : TrackStream) (place : ℕ) → new ≡ old ++ Published was.id track s
+    ∷ [] → place ≡ length new → now ≡ advanced was track → IsNext was track → IsKept old owed opened live
+    → IsPassOf old was → Keeps true (plain_seat old pins) (plain_seat new pins) was now track s (Ok place)
 published_answer old new owed opened live pins was now track s place seen last on next kept facts =
     let added = old ++ Published was.id track s ∷ [] in
     let more = published_goes_on old was.id track s kept.orderly facts.loading in
-    let count : published_count added was.id ≡ track + 1 = count_more old (Published was.id track s) was.id ∙ ap (λ b. published_count old was.id + cond b 1 0) (eq-eqb was.id was.id refl) ∙ omega (arith, next_is_count old was track facts next) in
-    let tracks : tracks_of added was.id ≡ was.to = ap (λ o. option_map_or (λ (i : TraceInfo). length i.names.tracks) o 0) (info_more old (Published was.id track s) was.id ∙ or_none _) ∙ facts.to in
-    let view : pass_of added was.id ≡ pass_view (advanced was track) = same_view _ _ refl (sym facts.from) tracks (ap₂ state_at count tracks) in
-    let passes : Replaces (passes_of old) (passes_of new) (pass_view was) (pass_view now) =
-    (more.passes.0, more.passes.1, more.passes.2 ∙ ap (λ p. more.passes.0 ++ p ∷ more.passes.1) facts.view, ap passes_of seen ∙ more.passes.3 ∙ ap (λ p. more.passes.0 ++ p ∷ more.passes.1) (view ∙ ap pass_view (sym on))) in
+    let count : published_count added was.id ≡ track + 1 = count_more old (Published was.id track s) was.id ∙
+    ap (λ b. published_count old was.id + cond b 1 0) (eq-eqb was.id was.id refl) ∙ omega
+    (arith, next_is_count old was track facts next) in
+    let tracks : tracks_of added was.id ≡ was.to =
+    ap (λ o. option_map_or (λ (i : TraceInfo). length i.names.tracks) o 0)
+    (info_more old (Published was.id track s) was.id ∙ or_none _) ∙ facts.to in
+    let view : pass_of added was.id ≡ pass_view (advanced was track) = same_view _ _ refl (sym facts.from)
+    tracks (ap₂ state_at count tracks) in
+    let passes : Replaces (passes_of old) (passes_of new) (pass_view was) (pass_view now) = (
+      more.passes.0,
+      more.passes.1,
+      more.passes.2 ∙ ap (λ p. more.passes.0 ++ p ∷ more.passes.1) facts.view,
+      ap passes_of seen ∙ more.passes.3 ∙ ap (λ p. more.passes.0 ++ p ∷ more.passes.1)
+          (view ∙ ap pass_view (sym on)),
+    ) in
     (makes old new pins pins (Published was.id track s) place seen last, on, passes, refl)
 
-pub sealed_answer : (old new : List Entry) (owed opened live : ℕ) (pins : List PinView) (pass : LoadPass) (place : ℕ) → new ≡ old ++ Sealed pass.id ∷ [] → place ≡ length new → IsKept old owed opened live → IsPassOf old pass → EndsLoad true (plain_seat old pins) (plain_seat new pins) pass (Sealed pass.id) place
+pub sealed_answer : (old new : List Entry) (owed opened live : ℕ) (pins : List PinView) (pass : LoadPass)
+    (place : ℕ) → new ≡ old ++ Sealed pass.id ∷ [] → place ≡ length new → IsKept old owed opened live
+    → IsPassOf old pass → EndsLoad true (plain_seat old pins) (plain_seat new pins) pass (Sealed pass.id)
+    place
 sealed_answer old new owed opened live pins pass place seen last kept facts =
     let more = sealed_ends old pass.id kept.orderly facts.loading in
-    let passes : Removes (passes_of old) (passes_of new) (pass_view pass) =
-    (more.passes.0, more.passes.1, more.passes.2 ∙ ap (λ p. more.passes.0 ++ p ∷ more.passes.1) facts.view, ap passes_of seen ∙ more.passes.3) in
+    let passes : Removes (passes_of old) (passes_of new) (pass_view pass) = (
+      more.passes.0,
+      more.passes.1,
+      more.passes.2 ∙ ap (λ p. more.passes.0 ++ p ∷ more.passes.1) facts.view,
+      ap passes_of seen ∙ more.passes.3,
+    ) in
     (makes old new pins pins (Sealed pass.id) place seen last, passes, refl)
 
-pub dropped_answer : (old new : List Entry) (owed opened live : ℕ) (pins : List PinView) (pass : LoadPass) (place : ℕ) → new ≡ old ++ Dropped pass.id ∷ [] → place ≡ length new → IsKept old owed opened live → IsPassOf old pass → EndsLoad true (plain_seat old pins) (plain_seat new pins) pass (Dropped pass.id) place
+pub dropped_answer : (old new : List Entry) (owed opened live : ℕ) (pins : List PinView) (pass : LoadPass)
+    (place : ℕ) → new ≡ old ++ Dropped pass.id ∷ [] → place ≡ length new → IsKept old owed opened live
+    → IsPassOf old pass → EndsLoad true (plain_seat old pins) (plain_seat new pins) pass (Dropped pass.id)
+    place
 dropped_answer old new owed opened live pins pass place seen last kept facts =
     let more = dropped_ends old pass.id kept.orderly facts.loading in
-    let passes : Removes (passes_of old) (passes_of new) (pass_view pass) =
-    (more.passes.0, more.passes.1, more.passes.2 ∙ ap (λ p. more.passes.0 ++ p ∷ more.passes.1) facts.view, ap passes_of seen ∙ more.passes.3) in
+    let passes : Removes (passes_of old) (passes_of new) (pass_view pass) = (
+      more.passes.0,
+      more.passes.1,
+      more.passes.2 ∙ ap (λ p. more.passes.0 ++ p ∷ more.passes.1) facts.view,
+      ap passes_of seen ∙ more.passes.3,
+    ) in
     (makes old new pins pins (Dropped pass.id) place seen last, passes, refl)
 
 -- a question leaves the passes as they are
@@ -120,14 +162,17 @@ pub asked_passes : (old new : List Entry) → new ≡ old ++ Asked ∷ [] → pa
 asked_passes old new seen = ap passes_of seen ∙ (asked_keeps old).passes
 
 -- which of the traces that are asked for isn't open
-pub first_unknown : (entries : List Entry) (ids : AskIds) → is_open entries (first_id ids) ≡ false → IsFirstUnknown entries ids (first_id ids)
+pub first_unknown : (entries : List Entry) (ids : AskIds) → is_open entries (first_id ids) ≡ false
+    → IsFirstUnknown entries ids (first_id ids)
 first_unknown entries (One a) off = (refl, off)
 first_unknown entries (Two a b) off = inl (refl, off)
 
-pub second_unknown : (entries : List Entry) (ids : AskIds) → is_open entries (first_id ids) ≡ true → is_open entries (second_id ids) ≡ false → IsFirstUnknown entries ids (second_id ids)
+pub second_unknown : (entries : List Entry) (ids : AskIds) → is_open entries (first_id ids) ≡ true
+    → is_open entries (second_id ids) ≡ false → IsFirstUnknown entries ids (second_id ids)
 second_unknown entries (One a) on off = (refl, off)
 second_unknown entries (Two a b) on off = inr (refl, on, off)
 
-pub both_open : (entries : List Entry) (ids : AskIds) → is_open entries (first_id ids) ≡ true → is_open entries (second_id ids) ≡ true → AreOpen entries ids
+pub both_open : (entries : List Entry) (ids : AskIds) → is_open entries (first_id ids) ≡ true
+    → is_open entries (second_id ids) ≡ true → AreOpen entries ids
 both_open entries (One a) first second = first
 both_open entries (Two a b) first second = (first, second)

@@ -1,5 +1,6 @@
 -- What each word of a history is after one more entry.
-use Rattle.std.proofs.Common.{◌≡◌, ℕ, ◌+◌, Bool, true, false, ◌||◌, ◌&&◌, cond, eqb, List, [], ◌∷◌, ◌++◌, length, filter, Option, None, Some, refl, ap, ◌∙◌, arith, length-append}
+use Rattle.std.proofs.Common.{◌≡◌, ℕ, ◌+◌, Bool, true, false, ◌||◌, ◌&&◌, cond, eqb, List, [], ◌∷◌, ◌++◌}
+use Rattle.std.proofs.Common.{length, filter, Option, None, Some, refl, ap, ◌∙◌, arith, length-append}
 use Rattle.std.specs.Prelude.{slice_get}
 use Rattle.std.specs.List.{list_any, filter_map, cons_option}
 use Rattle.std.specs.Option.{option_or, option_to_list, option_map_or}
@@ -7,41 +8,63 @@ use Rattle.std.proofs.lemmas.List.Elements.{filter_map-append, filter-append}
 use Rattle.std.proofs.lemmas.List.Folds.{list_any-append}
 use Rattle.trace_base.specs.declared.names.TraceInfo.{TraceInfo}
 use Rattle.trace_base.specs.declared.stream.TrackStream.{TrackStream}
-use Rattle.hall_trait.specs.History.{Entry, Opened, Published, Sealed, Dropped, Closed, Asked, opened_id, info_opened, stream_published, publishes, seals, ends, opened_ids, info_of, stream_of, is_open, is_loading, tracks_of, published_count}
+use Rattle.hall_trait.specs.History.{Entry, Opened, Published, Sealed, Dropped, Closed, Asked, opened_id}
+use Rattle.hall_trait.specs.History.{info_opened, stream_published, publishes, seals, ends, opened_ids}
+use Rattle.hall_trait.specs.History.{info_of, stream_of, is_open, is_loading, tracks_of, published_count}
 
 -- the first value that is given
-pub first-append : {X Y : Type 0} (h : X → Option Y) (xs ys : List X) → slice_get (filter_map h (xs ++ ys)) 0 ≡ option_or (slice_get (filter_map h xs) 0) (slice_get (filter_map h ys) 0)
+pub first-append : {X Y : Type 0} (h : X → Option Y) (xs ys : List X)
+    → slice_get (filter_map h (xs ++ ys)) 0 ≡ option_or (slice_get (filter_map h xs) 0)
+    (slice_get (filter_map h ys) 0)
 first-append h [] ys = refl
-first-append h (x ∷ xs) ys = elim (h x) as (λ o. slice_get (cons_option o (filter_map h (xs ++ ys))) 0 ≡ option_or (slice_get (cons_option o (filter_map h xs)) 0) (slice_get (filter_map h ys) 0)) [ None ↦ first-append h xs ys | Some y ↦ refl ]
+first-append h (x ∷ xs) ys = elim (h x) as (λ o. slice_get (cons_option o (filter_map h (xs ++ ys))) 0 ≡
+    option_or (slice_get (cons_option o (filter_map h xs)) 0) (slice_get (filter_map h ys) 0))
+    [ None ↦ first-append h xs ys | Some y ↦ refl ]
 
 pub first-one : {X Y : Type 0} (h : X → Option Y) (x : X) → slice_get (filter_map h (x ∷ [])) 0 ≡ h x
 first-one h x = elim (h x) as (λ o. slice_get (cons_option o []) 0 ≡ o) [ None ↦ refl | Some y ↦ refl ]
 
-pub first_more : {X Y : Type 0} (h : X → Option Y) (xs : List X) (x : X) → slice_get (filter_map h (xs ++ x ∷ [])) 0 ≡ option_or (slice_get (filter_map h xs) 0) (h x)
-first_more h xs x = first-append h xs (x ∷ []) ∙ ap (option_or (slice_get (filter_map h xs) 0)) (first-one h x)
+pub first_more : {X Y : Type 0} (h : X → Option Y) (xs : List X) (x : X)
+    → slice_get (filter_map h (xs ++ x ∷ [])) 0 ≡ option_or (slice_get (filter_map h xs) 0) (h x)
+first_more h xs x = first-append h xs (x ∷ []) ∙ ap (option_or (slice_get (filter_map h xs) 0))
+    (first-one h x)
 
-pub any_more : {X : Type 0} (p : X → Bool) (xs : List X) (x : X) → list_any p (xs ++ x ∷ []) ≡ (list_any p xs || p x)
-any_more p xs x = list_any-append p xs (x ∷ []) ∙ ap (λ b. list_any p xs || b) (elim (p x) as (λ b. (b || false) ≡ b) [ true ↦ refl | false ↦ refl ])
+pub any_more : {X : Type 0} (p : X → Bool) (xs : List X) (x : X)
+    → list_any p (xs ++ x ∷ []) ≡ (list_any p xs || p x)
+any_more p xs x = list_any-append p xs (x ∷ []) ∙ ap (λ b. list_any p xs || b)
+    (elim (p x) as (λ b. (b || false) ≡ b) [ true ↦ refl | false ↦ refl ])
 
-pub opened_more : (entries : List Entry) (e : Entry) → opened_ids (entries ++ e ∷ []) ≡ opened_ids entries ++ option_to_list (opened_id e)
+pub opened_more : (entries : List Entry) (e : Entry) → opened_ids (entries ++ e ∷ []) ≡ opened_ids entries
+    ++ option_to_list (opened_id e)
 unfolding opened_ids
-opened_more entries e = filter_map-append opened_id entries (e ∷ []) ∙ ap (λ ids. filter_map opened_id entries ++ ids) (elim (opened_id e) as (λ o. cons_option o [] ≡ option_to_list o) [ None ↦ refl | Some id ↦ refl ])
+opened_more entries e = filter_map-append opened_id entries (e ∷ []) ∙ ap (λ ids. filter_map opened_id entries
+    ++ ids) (elim (opened_id e) as (λ o. cons_option o [] ≡ option_to_list o) [
+      | None ↦ refl
+      | Some id ↦ refl
+    ])
 
-pub info_more : (entries : List Entry) (e : Entry) (id : ℕ) → info_of (entries ++ e ∷ []) id ≡ option_or (info_of entries id) (info_opened id e)
+pub info_more : (entries : List Entry) (e : Entry) (id : ℕ) → info_of (entries ++ e ∷ []) id ≡ option_or
+    (info_of entries id) (info_opened id e)
 unfolding info_of
 info_more entries e id = first_more (info_opened id) entries e
 
-pub stream_more : (entries : List Entry) (e : Entry) (id track : ℕ) → stream_of (entries ++ e ∷ []) id track ≡ option_or (stream_of entries id track) (stream_published id track e)
+pub stream_more : (entries : List Entry) (e : Entry) (id track : ℕ) → stream_of (entries ++ e ∷ []) id track ≡
+    option_or (stream_of entries id track) (stream_published id track e)
 unfolding stream_of
 stream_more entries e id track = first_more (stream_published id track) entries e
 
-pub count_more : (entries : List Entry) (e : Entry) (id : ℕ) → published_count (entries ++ e ∷ []) id ≡ published_count entries id + cond (publishes id e) 1 0
+pub count_more : (entries : List Entry) (e : Entry) (id : ℕ) → published_count (entries ++ e ∷ []) id ≡
+    published_count entries id + cond (publishes id e) 1 0
 unfolding published_count
-count_more entries e id = ap length (filter-append (publishes id) entries (e ∷ [])) ∙ length-append (filter (publishes id) entries) (filter (publishes id) (e ∷ [])) ∙ ap (λ n. length (filter (publishes id) entries) + n) (elim (publishes id e) as (λ b. length (cond b (e ∷ []) []) ≡ cond b 1 0) [ true ↦ refl | false ↦ refl ])
+count_more entries e id = ap length (filter-append (publishes id) entries (e ∷ [])) ∙ length-append
+    (filter (publishes id) entries) (filter (publishes id) (e ∷ [])) ∙ ap
+    (λ n. length (filter (publishes id) entries) + n)
+    (elim (publishes id e) as (λ b. length (cond b (e ∷ []) []) ≡ cond b 1 0) [ true ↦ refl | false ↦ refl ])
 
 -- nothing that the histories say of the trace differs, but for its end and its seal
 pub record SameData (old new : List Entry) (id : ℕ) : Type 0 where
-  pub opened : list_any (λ other. eqb other id) (opened_ids new) ≡ list_any (λ other. eqb other id) (opened_ids old)
+  pub opened : list_any (λ other. eqb other id) (opened_ids new) ≡ list_any (λ other. eqb other id)
+      (opened_ids old)
   pub info : info_of new id ≡ info_of old id
   pub count : published_count new id ≡ published_count old id
   pub streams : (track : ℕ) → stream_of new id track ≡ stream_of old id track
@@ -66,12 +89,17 @@ pub or_false : (b : Bool) → (b || false) ≡ b
 or_false true = refl
 or_false false = refl
 
-pub SameData-from_nothing : (entries : List Entry) (e : Entry) (id : ℕ) → AddsNothing e id → SameData entries (entries ++ e ∷ []) id
+pub SameData-from_nothing : (entries : List Entry) (e : Entry) (id : ℕ) → AddsNothing e id
+    → SameData entries (entries ++ e ∷ []) id
 SameData-from_nothing entries e id none = record {
-  opened = ap (list_any (λ other. eqb other id)) (opened_more entries e) ∙ list_any-append (λ other. eqb other id) (opened_ids entries) (option_to_list (opened_id e)) ∙ ap (λ b. list_any (λ other. eqb other id) (opened_ids entries) || b) none.opened ∙ or_false _;
+  opened = ap (list_any (λ other. eqb other id)) (opened_more entries e) ∙ list_any-append
+      (λ other. eqb other id) (opened_ids entries) (option_to_list (opened_id e)) ∙ ap
+      (λ b. list_any (λ other. eqb other id) (opened_ids entries) || b) none.opened ∙ or_false _;
   info = info_more entries e id ∙ ap (option_or (info_of entries id)) none.info ∙ or_none _;
-  count = count_more entries e id ∙ ap (λ b. published_count entries id + cond b 1 0) none.count ∙ omega arith;
-  streams = λ track. stream_more entries e id track ∙ ap (option_or (stream_of entries id track)) (none.streams track) ∙ or_none _;
+  count = count_more entries e id ∙ ap (λ b. published_count entries id + cond b 1 0) none.count ∙ omega
+      arith;
+  streams = λ track. stream_more entries e id track ∙ ap (option_or (stream_of entries id track))
+      (none.streams track) ∙ or_none _;
 }
 
 -- the trace that the entry is about
@@ -84,20 +112,47 @@ subject (Closed id) = id
 subject Asked = 0
 
 pub nothing_of_others : (e : Entry) (id : ℕ) → eqb (subject e) id ≡ false → AddsNothing e id
-nothing_of_others (Opened other info) id ne = record { opened = ap (λ b. b || false) ne; info = ap (λ b. cond b (Some info) None) ne; count = refl; streams = λ track. refl }
-nothing_of_others (Published other which stream) id ne = record { opened = refl; info = refl; count = ne; streams = λ track. ap (λ b. cond (b && eqb which track) (Some stream) None) ne }
-nothing_of_others (Sealed other) id ne = record { opened = refl; info = refl; count = refl; streams = λ track. refl }
-nothing_of_others (Dropped other) id ne = record { opened = refl; info = refl; count = refl; streams = λ track. refl }
-nothing_of_others (Closed other) id ne = record { opened = refl; info = refl; count = refl; streams = λ track. refl }
+nothing_of_others (Opened other info) id ne = record {
+  opened = ap (λ b. b || false) ne;
+  info = ap (λ b. cond b (Some info) None) ne;
+  count = refl;
+  streams = λ track. refl;
+}
+nothing_of_others (Published other which stream) id ne = record {
+  opened = refl;
+  info = refl;
+  count = ne;
+  streams = λ track. ap (λ b. cond (b && eqb which track) (Some stream) None) ne;
+}
+nothing_of_others (Sealed other) id ne = record {
+  opened = refl;
+  info = refl;
+  count = refl;
+  streams = λ track. refl;
+}
+nothing_of_others (Dropped other) id ne = record {
+  opened = refl;
+  info = refl;
+  count = refl;
+  streams = λ track. refl;
+}
+nothing_of_others (Closed other) id ne = record {
+  opened = refl;
+  info = refl;
+  count = refl;
+  streams = λ track. refl;
+}
 nothing_of_others Asked id ne = record { opened = refl; info = refl; count = refl; streams = λ track. refl }
 
-fate_more : (entries : List Entry) (e : Entry) (id : ℕ) → ends id e ≡ false → seals id e ≡ false → SameFate entries (entries ++ e ∷ []) id
+fate_more : (entries : List Entry) (e : Entry) (id : ℕ) → ends id e ≡ false → seals id e ≡ false
+    → SameFate entries (entries ++ e ∷ []) id
 fate_more entries e id not_ended not_sealed = record {
   ended = any_more (ends id) entries e ∙ ap (λ b. list_any (ends id) entries || b) not_ended ∙ or_false _;
   sealed = any_more (seals id) entries e ∙ ap (λ b. list_any (seals id) entries || b) not_sealed ∙ or_false _;
 }
 
-pub fate_of_others : (entries : List Entry) (e : Entry) (id : ℕ) → eqb (subject e) id ≡ false → SameFate entries (entries ++ e ∷ []) id
+pub fate_of_others : (entries : List Entry) (e : Entry) (id : ℕ) → eqb (subject e) id ≡ false
+    → SameFate entries (entries ++ e ∷ []) id
 fate_of_others entries (Opened other info) id ne = fate_more entries _ id refl refl
 fate_of_others entries (Published other which stream) id ne = fate_more entries _ id refl refl
 fate_of_others entries (Sealed other) id ne = fate_more entries _ id refl ne
@@ -105,39 +160,49 @@ fate_of_others entries (Dropped other) id ne = fate_more entries _ id ne refl
 fate_of_others entries (Closed other) id ne = fate_more entries _ id ne refl
 fate_of_others entries Asked id ne = fate_more entries _ id refl refl
 
-pub data_of_others : (entries : List Entry) (e : Entry) (id : ℕ) → eqb (subject e) id ≡ false → SameData entries (entries ++ e ∷ []) id
+pub data_of_others : (entries : List Entry) (e : Entry) (id : ℕ) → eqb (subject e) id ≡ false
+    → SameData entries (entries ++ e ∷ []) id
 data_of_others entries e id ne = SameData-from_nothing entries e id (nothing_of_others e id ne)
 
 -- of these entries the data stays
 pub data_sealed : (entries : List Entry) (other id : ℕ) → SameData entries (entries ++ Sealed other ∷ []) id
-data_sealed entries other id = SameData-from_nothing entries _ id (record { opened = refl; info = refl; count = refl; streams = λ track. refl })
+data_sealed entries other id = SameData-from_nothing entries _ id
+    (record { opened = refl; info = refl; count = refl; streams = λ track. refl })
 
 pub data_dropped : (entries : List Entry) (other id : ℕ) → SameData entries (entries ++ Dropped other ∷ []) id
-data_dropped entries other id = SameData-from_nothing entries _ id (record { opened = refl; info = refl; count = refl; streams = λ track. refl })
+data_dropped entries other id = SameData-from_nothing entries _ id
+    (record { opened = refl; info = refl; count = refl; streams = λ track. refl })
 
 pub data_closed : (entries : List Entry) (other id : ℕ) → SameData entries (entries ++ Closed other ∷ []) id
-data_closed entries other id = SameData-from_nothing entries _ id (record { opened = refl; info = refl; count = refl; streams = λ track. refl })
+data_closed entries other id = SameData-from_nothing entries _ id
+    (record { opened = refl; info = refl; count = refl; streams = λ track. refl })
 
 pub data_asked : (entries : List Entry) (id : ℕ) → SameData entries (entries ++ Asked ∷ []) id
-data_asked entries id = SameData-from_nothing entries _ id (record { opened = refl; info = refl; count = refl; streams = λ track. refl })
+data_asked entries id = SameData-from_nothing entries _ id
+    (record { opened = refl; info = refl; count = refl; streams = λ track. refl })
 
 pub fate_asked : (entries : List Entry) (id : ℕ) → SameFate entries (entries ++ Asked ∷ []) id
 fate_asked entries id = fate_more entries _ id refl refl
 
-pub fate_published : (entries : List Entry) (other which : ℕ) (s : TrackStream) (id : ℕ) → SameFate entries (entries ++ Published other which s ∷ []) id
+pub fate_published : (entries : List Entry) (other which : ℕ) (s : TrackStream) (id : ℕ)
+    → SameFate entries (entries ++ Published other which s ∷ []) id
 fate_published entries other which s id = fate_more entries _ id refl refl
 
-pub fate_opened : (entries : List Entry) (other : ℕ) (info : TraceInfo) (id : ℕ) → SameFate entries (entries ++ Opened other info ∷ []) id
+pub fate_opened : (entries : List Entry) (other : ℕ) (info : TraceInfo) (id : ℕ)
+    → SameFate entries (entries ++ Opened other info ∷ []) id
 fate_opened entries other info id = fate_more entries _ id refl refl
 
 -- what follows from the same data and the same fate
-pub open_same : (old new : List Entry) (id : ℕ) → SameData old new id → SameFate old new id → is_open new id ≡ is_open old id
+pub open_same : (old new : List Entry) (id : ℕ) → SameData old new id → SameFate old new id
+    → is_open new id ≡ is_open old id
 unfolding is_open
 open_same old new id same fate = rw (same.opened, fate.ended) refl
 
-pub loading_same : (old new : List Entry) (id : ℕ) → SameData old new id → SameFate old new id → is_loading new id ≡ is_loading old id
+pub loading_same : (old new : List Entry) (id : ℕ) → SameData old new id → SameFate old new id
+    → is_loading new id ≡ is_loading old id
 unfolding is_loading
 loading_same old new id same fate = rw (open_same old new id same fate, fate.sealed) refl
 
 pub tracks_same : (old new : List Entry) (id : ℕ) → SameData old new id → tracks_of new id ≡ tracks_of old id
-tracks_same old new id same = ap (λ o. option_map_or (λ (info : TraceInfo). length info.names.tracks) o 0) same.info
+tracks_same old new id same = ap (λ o. option_map_or (λ (info : TraceInfo). length info.names.tracks) o 0)
+    same.info

@@ -1,5 +1,7 @@
 -- What changes in a filtered list of numbers where a test changes at one of them alone.
-use Rattle.std.proofs.Common.{◌≡◌, ℕ, ◌+◌, ◌<◌, ◌≤◌, inl, inr, Bool, true, false, cond, eqb, List, [], ◌∷◌, ◌++◌, map, filter, sum_by, refl, sym, ap, ap₂, ◌∙◌, arith, suc, zero, append_assoc}
+use Rattle.std.proofs.Common.{◌≡◌, ℕ, ◌+◌, ◌<◌, ◌≤◌, inl, inr, Bool, true, false, cond, eqb, List, [], ◌∷◌}
+use Rattle.std.proofs.Common.{◌++◌, map, filter, sum_by, refl, sym, ap, ap₂, ◌∙◌, arith, suc, zero}
+use Rattle.std.proofs.Common.{append_assoc}
 use Rattle.std.specs.List.{range_with_len}
 use Rattle.std.proofs.lemmas.List.Elements.{filter-append}
 use Rattle.std.proofs.lemmas.List.{append-nil}
@@ -20,11 +22,18 @@ range_below a zero id le = none
 range_below a (suc n) id le = more a _ (grind (arith, nat_tests)) (range_below (a + 1) n id (omega arith))
 
 -- the range around one of its numbers
-range_around : (a n id : ℕ) → a ≤ id → id < a + n → (before after : List ℕ) × (range_with_len a n ≡ before ++ id ∷ after) × Lacks id before × Lacks id after
+range_around : (a n id : ℕ) → a ≤ id → id < a + n → (before after : List ℕ)
+    × (range_with_len a n ≡ before ++ id ∷ after) × Lacks id before × Lacks id after
 range_around a zero id low high = absurd (omega arith)
 range_around a (suc n) id low high =
     elim (eqb_tells id a) [
-      | inl same ↦ ([], range_with_len (a + 1) n, ap (λ x. x ∷ range_with_len (a + 1) n) (sym same.1), none, range_above (a + 1) n id (omega arith))
+      | inl same ↦ (
+        [],
+        range_with_len (a + 1) n,
+        ap (λ x. x ∷ range_with_len (a + 1) n) (sym same.1),
+        none,
+        range_above (a + 1) n id (omega arith),
+      )
       | inr other ↦
           let rest = range_around (a + 1) n id (omega arith) (omega arith) in
           (a ∷ rest.0, rest.1, ap (λ xs. a ∷ xs) rest.2, more a _ other.0 rest.3, rest.4)
@@ -34,21 +43,29 @@ range_around a (suc n) id low high =
 abbrev pub AgreeBut : {X : Type 0} → ℕ → (ℕ → X) → (ℕ → X) → Type 0
 AgreeBut id f g = (x : ℕ) → eqb id x ≡ false → g x ≡ f x
 
-pub filter_same : (p q : ℕ → Bool) (id : ℕ) (xs : List ℕ) → AgreeBut id p q → Lacks id xs → filter q xs ≡ filter p xs
+pub filter_same : (p q : ℕ → Bool) (id : ℕ) (xs : List ℕ) → AgreeBut id p q → Lacks id xs
+    → filter q xs ≡ filter p xs
 filter_same p q id [] agree lacks = refl
-filter_same p q id (x ∷ xs) agree (more y ys other rest) = ap₂ (λ b zs. cond b (x ∷ zs) zs) (agree x other) (filter_same p q id xs agree rest)
+filter_same p q id (x ∷ xs) agree (more y ys other rest) = ap₂ (λ b zs. cond b (x ∷ zs) zs) (agree x other)
+    (filter_same p q id xs agree rest)
 
-pub map_same : {X : Type 0} (f g : ℕ → X) (id : ℕ) (xs : List ℕ) → AgreeBut id f g → Lacks id xs → map g xs ≡ map f xs
+pub map_same : {X : Type 0} (f g : ℕ → X) (id : ℕ) (xs : List ℕ) → AgreeBut id f g → Lacks id xs
+    → map g xs ≡ map f xs
 map_same f g id [] agree lacks = refl
-map_same f g id (x ∷ xs) agree (more y ys other rest) = ap₂ ◌∷◌ (agree x other) (map_same f g id xs agree rest)
+map_same f g id (x ∷ xs) agree (more y ys other rest) = ap₂ ◌∷◌ (agree x other)
+    (map_same f g id xs agree rest)
 
-pub sum_same : (f g : ℕ → ℕ) (id : ℕ) (xs : List ℕ) → AgreeBut id f g → Lacks id xs → sum_by g xs ≡ sum_by f xs
+pub sum_same : (f g : ℕ → ℕ) (id : ℕ) (xs : List ℕ) → AgreeBut id f g → Lacks id xs
+    → sum_by g xs ≡ sum_by f xs
 sum_same f g id [] agree lacks = refl
-sum_same f g id (x ∷ xs) agree (more y ys other rest) = sum_by-cons g x xs ∙ ap₂ ◌+◌ (agree x other) (sum_same f g id xs agree rest) ∙ sym (sum_by-cons f x xs)
+sum_same f g id (x ∷ xs) agree (more y ys other rest) = sum_by-cons g x xs ∙ ap₂ ◌+◌ (agree x other)
+    (sum_same f g id xs agree rest) ∙ sym (sum_by-cons f x xs)
 
 pub Lacks-filter : (p : ℕ → Bool) (id : ℕ) (xs : List ℕ) → Lacks id xs → Lacks id (filter p xs)
 Lacks-filter p id [] lacks = none
-Lacks-filter p id (x ∷ xs) (more y ys other rest) = elim (p x) as (λ b. Lacks id (cond b (x ∷ filter p xs) (filter p xs))) [ true ↦ more x _ other (Lacks-filter p id xs rest) | false ↦ Lacks-filter p id xs rest ]
+Lacks-filter p id (x ∷ xs) (more y ys other rest) =
+    elim (p x) as (λ b. Lacks id (cond b (x ∷ filter p xs) (filter p xs)))
+    [ true ↦ more x _ other (Lacks-filter p id xs rest) | false ↦ Lacks-filter p id xs rest ]
 
 -- the two lists, around the number
 pub record Around (p q : ℕ → Bool) (id : ℕ) (xs : List ℕ) : Type 0 where
@@ -59,17 +76,26 @@ pub record Around (p q : ℕ → Bool) (id : ℕ) (xs : List ℕ) : Type 0 where
   pub lacks_front : Lacks id front
   pub lacks_back : Lacks id back
 
-filter-around : (p : ℕ → Bool) (id : ℕ) (before after : List ℕ) → filter p (before ++ id ∷ after) ≡ filter p before ++ cond (p id) (id ∷ []) [] ++ filter p after
-filter-around p id before after = filter-append p before (id ∷ after) ∙ elim (p id) as (λ b. filter p before ++ cond b (id ∷ filter p after) (filter p after) ≡ filter p before ++ cond b (id ∷ []) [] ++ filter p after) [ true ↦ sym (append_assoc (filter p before) (id ∷ []) (filter p after)) | false ↦ ap (λ xs. xs ++ filter p after) (sym (append-nil (filter p before))) ]
+filter-around : (p : ℕ → Bool) (id : ℕ) (before after : List ℕ) → filter p (before ++ id ∷ after) ≡ filter p
+    before ++ cond (p id) (id ∷ []) [] ++ filter p after
+filter-around p id before after = filter-append p before (id ∷ after) ∙ elim (p id) as (λ b. filter p before
+    ++ cond b (id ∷ filter p after) (filter p after) ≡ filter p before ++ cond b (id ∷ []) []
+    ++ filter p after) [
+      | true ↦ sym (append_assoc (filter p before) (id ∷ []) (filter p after))
+      | false ↦ ap (λ xs. xs ++ filter p after) (sym (append-nil (filter p before)))
+    ]
 
-pub filters_around : (p q : ℕ → Bool) (id n : ℕ) → AgreeBut id p q → 1 ≤ id → id ≤ n → Around p q id (range_with_len 1 n)
+pub filters_around : (p q : ℕ → Bool) (id n : ℕ) → AgreeBut id p q → 1 ≤ id → id ≤ n
+    → Around p q id (range_with_len 1 n)
 filters_around p q id n agree low high =
     let parts = range_around 1 n id low (omega arith) in
     record {
       front = filter p parts.0;
       back = filter p parts.1;
       old = ap (filter p) parts.2 ∙ filter-around p id parts.0 parts.1;
-      new = ap (filter q) parts.2 ∙ filter-around q id parts.0 parts.1 ∙ ap₂ (λ xs ys. xs ++ cond (q id) (id ∷ []) [] ++ ys) (filter_same p q id parts.0 agree parts.3) (filter_same p q id parts.1 agree parts.4);
+      new = ap (filter q) parts.2 ∙ filter-around q id parts.0 parts.1 ∙ ap₂
+          (λ xs ys. xs ++ cond (q id) (id ∷ []) [] ++ ys) (filter_same p q id parts.0 agree parts.3)
+          (filter_same p q id parts.1 agree parts.4);
       lacks_front = Lacks-filter p id parts.0 parts.3;
       lacks_back = Lacks-filter p id parts.1 parts.4;
     }

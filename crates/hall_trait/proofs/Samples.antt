@@ -1,5 +1,6 @@
 -- What the tests need of their small traces and of a load that is alone.
-use Rattle.std.proofs.Common.{◌≡◌, ℕ, ◌≤◌, List, [], ◌∷◌, ◌++◌, length, get_or, take, Some, refl, sym, ap, ◌∙◌, arith, suc, zero, subst, length-append, Contains, lit≤}
+use Rattle.std.proofs.Common.{◌≡◌, ℕ, ◌≤◌, List, [], ◌∷◌, ◌++◌, length, get_or, take, Some, refl, sym, ap}
+use Rattle.std.proofs.Common.{◌∙◌, arith, suc, zero, subst, length-append, Contains, lit≤}
 use Rattle.std.specs.Prelude.{slice_get}
 use Rattle.std.specs.List.Sorted.{IsNonDecreasing}
 use Rattle.std.specs.Option.{option_map_or}
@@ -43,29 +44,73 @@ quiet_legal = record {
   functions = λ i f t at. absurd cc;
 }
 
-pub quiet_fits : (info : TraceInfo) (s : TrackStream) (name : List ℕ) → s ≡ quiet → info.names.tracks ≡ record { container = 0; kind = 0 } ∷ [] → info.names.containers ≡ record { name = name; start = 0; end = 10 } ∷ [] → Fits s info 0
-quiet_fits info s name same tracks containers = subst (λ (s : TrackStream). Fits s info 0) (sym same) (record {
-  legal = quiet_legal;
-  interval = (record { container = 0; kind = 0 }, record { name = name; start = 0; end = 10 }, ap (λ xs. slice_get xs 0) tracks, ap (λ xs. slice_get xs 0) containers, (refl, refl));
-  numbered = λ i f t at. absurd cc;
-})
+pub quiet_fits : (info : TraceInfo) (s : TrackStream) (name : List ℕ) → s ≡ quiet
+    → info.names.tracks ≡ record { container = 0; kind = 0 } ∷ []
+    → info.names.containers ≡ record { name = name; start = 0; end = 10 } ∷ [] → Fits s info 0
+quiet_fits info s name same tracks containers = subst (λ (s : TrackStream). Fits s info 0) (sym same)
+    (record {
+      legal = quiet_legal;
+      interval = (
+        record { container = 0; kind = 0 },
+        record { name = name; start = 0; end = 10 },
+        ap (λ xs. slice_get xs 0) tracks,
+        ap (λ xs. slice_get xs 0) containers,
+        (refl, refl),
+      );
+      numbered = λ i f t at. absurd cc;
+    })
 
 -- an added pass is there, and one in place of another
 pub adds_has : {X : Type 0} (old new : List X) (x : X) → Adds old new x → Contains new x
-adds_has old new x adds = (length old, omega (arith, ap length adds, length-append old (x ∷ [])), ap (λ xs. get_or xs (length old) x) adds ∙ get_or-append_seam old x [] x)
+adds_has old new x adds = (
+  length old,
+  omega (arith, ap length adds, length-append old (x ∷ [])),
+  ap (λ xs. get_or xs (length old) x) adds ∙ get_or-append_seam old x [] x,
+)
 
 pub replaces_has : {X : Type 0} (old new : List X) (x y : X) → Replaces old new x y → Contains new y
-replaces_has old new x y (front, back, was, is) = (length front, omega (arith, ap length is, length-append front (y ∷ back)), ap (λ xs. get_or xs (length front) y) is ∙ get_or-append_seam front y back y)
+replaces_has old new x y (front, back, was, is) = (
+  length front,
+  omega (arith, ap length is, length-append front (y ∷ back)),
+  ap (λ xs. get_or xs (length front) y) is ∙ get_or-append_seam front y back y,
+)
 
 -- an only pass that is gone leaves none
-pub none_left : {X : Type 0} (none one now rest : List X) (x y : X) → none ≡ [] → Adds none one x → Replaces one now x y → Removes now rest y → rest ≡ []
+pub none_left : {X : Type 0} (none one now rest : List X) (x y : X) → none ≡ [] → Adds none one x
+    → Replaces one now x y → Removes now rest y → rest ≡ []
 none_left none one now rest x y empty adds (front, back, was, is) (front2, back2, was2, is2) =
-    nil_from_length rest (omega (arith, ap length empty, ap length adds, length-append none (x ∷ []), ap length was, ap length is, ap length was2, ap length is2, length-append front (x ∷ back), length-append front (y ∷ back), length-append front2 (y ∷ back2), length-append front2 back2))
+    nil_from_length rest (omega (
+      arith,
+      ap length empty,
+      ap length adds,
+      length-append none (x ∷ []),
+      ap length was,
+      ap length is,
+      ap length was2,
+      ap length is2,
+      length-append front (x ∷ back),
+      length-append front (y ∷ back),
+      length-append front2 (y ∷ back2),
+      length-append front2 back2,
+    ))
 
-pub none_left_at_once : {X : Type 0} (none one rest : List X) (x : X) → none ≡ [] → Adds none one x → Removes one rest x → rest ≡ []
+pub none_left_at_once : {X : Type 0} (none one rest : List X) (x : X) → none ≡ [] → Adds none one x
+    → Removes one rest x → rest ≡ []
 none_left_at_once none one rest x empty adds (front, back, was, is) =
-    nil_from_length rest (omega (arith, ap length empty, ap length adds, length-append none (x ∷ []), ap length was, ap length is, length-append front (x ∷ back), length-append front back))
+    nil_from_length rest (omega (
+      arith,
+      ap length empty,
+      ap length adds,
+      length-append none (x ∷ []),
+      ap length was,
+      ap length is,
+      length-append front (x ∷ back),
+      length-append front back,
+    ))
 
 -- a publication leaves the number of tracks
-pub tracks_stay : (old new : List Entry) (id track : ℕ) (s : TrackStream) (info : TraceInfo) → new ≡ old ++ Published id track s ∷ [] → info_of old id ≡ Some info → tracks_of new id ≡ length info.names.tracks
-tracks_stay old new id track s info seen told = ap (λ o. option_map_or (λ (i : TraceInfo). length i.names.tracks) o 0) (ap (λ es. info_of es id) seen ∙ info_more old (Published id track s) id ∙ or_none _ ∙ told)
+pub tracks_stay : (old new : List Entry) (id track : ℕ) (s : TrackStream) (info : TraceInfo) → new ≡ old
+    ++ Published id track s ∷ [] → info_of old id ≡ Some info → tracks_of new id ≡ length info.names.tracks
+tracks_stay old new id track s info seen told =
+    ap (λ o. option_map_or (λ (i : TraceInfo). length i.names.tracks) o 0)
+    (ap (λ es. info_of es id) seen ∙ info_more old (Published id track s) id ∙ or_none _ ∙ told)

@@ -1,14 +1,15 @@
--- The history of a hall: the list of its entries. The k-th entry has place k, counted from 1. What is open, loading or
--- published after some entries are filters over them.
-use Rattle.std.specs.Prelude.{◌≡◌, ℕ, ◌+◌, ◌-◌, ◌<◌, Bool, false, not, if◌then◌else◌, ◌&&◌, ◌==◌, List, length, take, filter, sum_by, slice_get, Option, None, Some, IsTrue, IsSome}
+-- The history of a hall: the list of its entries. The k-th entry has place k, counted from 1. What is open,
+-- loading or published after some entries are filters over them.
+use Rattle.std.specs.Prelude.{◌≡◌, ℕ, ◌+◌, ◌-◌, ◌<◌, Bool, false, not, if◌then◌else◌, ◌&&◌, ◌==◌, List}
+use Rattle.std.specs.Prelude.{length, take, filter, sum_by, slice_get, Option, None, Some, IsTrue, IsSome}
 use Rattle.std.specs.List.{list_any, filter_map}
 use Rattle.std.specs.Option.{option_map_or}
 use Rattle.trace_base.specs.Info.{IsLegalInfo, Fits}
 use Rattle.trace_base.specs.declared.names.TraceInfo.{TraceInfo}
 use Rattle.trace_base.specs.declared.stream.TrackStream.{TrackStream}
 
--- A trace was opened with these names and messages, a track of it was published, all of it was sealed, its loading
--- was dropped, it was closed, or a seat asked, which carries nothing.
+-- A trace was opened with these names and messages, a track of it was published, all of it was sealed, its
+-- loading was dropped, it was closed, or a seat asked, which carries nothing.
 pub data Entry : Type 0 where
   Opened : (id : ℕ) (info : TraceInfo) → Entry
   Published : (id track : ℕ) (stream : TrackStream) → Entry
@@ -37,7 +38,8 @@ info_opened id Asked = None
 
 -- the stream that the entry publishes as this track of the trace
 abbrev pub stream_published : ℕ → ℕ → Entry → Option TrackStream
-stream_published id track (Published other which stream) = if other == id && which == track then Some stream else None
+stream_published id track (Published other which stream) = if other == id && which == track then Some stream
+    else None
 stream_published id track (Opened other info) = None
 stream_published id track (Sealed other) = None
 stream_published id track (Dropped other) = None
@@ -109,20 +111,24 @@ published_count entries id = length (filter (publishes id) entries)
 
 -- the places that are promised to loading traces: one a track that isn't published yet, and one for the seal
 unfoldable pub promised : List Entry → ℕ
-promised entries = sum_by (λ id. tracks_of entries id - published_count entries id + 1) (filter (is_loading entries) (opened_ids entries))
+promised entries = sum_by (λ id. tracks_of entries id - published_count entries id + 1)
+    (filter (is_loading entries) (opened_ids entries))
 
 -- the stream may be published as this track of the trace
 abbrev pub FitsTrack : List Entry → ℕ → ℕ → TrackStream → Type 0
-FitsTrack entries id track s = (info : TraceInfo) × (info_of entries id ≡ Some info) × (track < length info.names.tracks) × Fits s info track
+FitsTrack entries id track s = (info : TraceInfo) × (info_of entries id ≡ Some info)
+    × (track < length info.names.tracks) × Fits s info track
 
--- Whether an entry may come after these. Ids are given in order, and at most 1,024 traces are open. A track is
--- published once, while its trace is loading, with a stream that fits it. A trace is sealed when all its tracks are
--- published. A loading trace may be dropped, and a sealed one closed.
+-- Whether an entry may come after these. Ids are given in order, and at most 1,024 traces are open. A track
+-- is published once, while its trace is loading, with a stream that fits it. A trace is sealed when all its
+-- tracks are published. A loading trace may be dropped, and a sealed one closed.
 abbrev pub MayFollow : List Entry → Entry → Type 0
-MayFollow entries (Opened id info) = (id ≡ next_id entries) × IsLegalInfo info × (length (open_ids entries) < 1024)
+MayFollow entries (Opened id info) = (id ≡ next_id entries) × IsLegalInfo info
+    × (length (open_ids entries) < 1024)
 MayFollow entries (Published id track stream) =
     IsTrue (is_loading entries id) × (stream_of entries id track ≡ None) × FitsTrack entries id track stream
-MayFollow entries (Sealed id) = IsTrue (is_loading entries id) × ((track : ℕ) → track < tracks_of entries id → IsSome (stream_of entries id track))
+MayFollow entries (Sealed id) = IsTrue (is_loading entries id)
+    × ((track : ℕ) → track < tracks_of entries id → IsSome (stream_of entries id track))
 MayFollow entries (Dropped id) = IsTrue (is_loading entries id)
 MayFollow entries (Closed id) = IsTrue (is_open entries id) × (is_loading entries id ≡ false)
 MayFollow entries Asked = Unit {0}

@@ -3,7 +3,8 @@ use Rattle.std.specs.Prelude.{◌≡◌, ℕ, ◌+◌, ◌^◌, ◌≤◌, List,
 use Rattle.std.specs.List.{flat_map}
 use Rattle.std.specs.Arc.{arc_value}
 use Rattle.std.proofs.Props.{props}
-use Rattle.hall_trait.specs.History.{Entry, Opened, Published, Sealed, Dropped, Asked, IsLegalHistory, opened_ids, open_ids, promised}
+use Rattle.hall_trait.specs.History.{Entry, Opened, Published, Sealed, Dropped, Asked, IsLegalHistory}
+use Rattle.hall_trait.specs.History.{opened_ids, open_ids, promised}
 use Rattle.hall_trait.specs.HistoryProps.{IsLegalHistory-prop}
 use Rattle.hall_trait.specs.Orderly.{IsOrderly}
 use Rattle.hall_trait.specs.declared.kept_entry.HistoryEntry.{HistoryEntry}
@@ -25,7 +26,8 @@ block_of kept = replicate kept.asked Asked ++ entry_of kept.entry ∷ []
 abbrev pub entries_of : List KeptEntry → ℕ → List Entry
 entries_of kept asked = flat_map block_of kept ++ replicate asked Asked
 
--- A legal history with these numbers: of the places that are promised, the traces that were opened, and those that are.
+-- A legal history with these numbers: of the places that are promised, the traces that were opened, and those
+-- that are.
 pub record IsKept (entries : List Entry) (owed opened live : ℕ) : Type 0 where
   pub legal : IsLegalHistory entries
   pub orderly : IsOrderly entries

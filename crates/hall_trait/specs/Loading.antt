@@ -10,7 +10,12 @@ loading_ids entries = filter (is_loading entries) (opened_ids entries)
 
 -- the pass over all tracks of the trace, of which the first are published
 abbrev pub pass_of : List Entry → ℕ → PassView
-pass_of entries id = record { id = id; from = 0; to = tracks_of entries id; state = state_at (published_count entries id) (tracks_of entries id) }
+pass_of entries id = record {
+  id = id;
+  from = 0;
+  to = tracks_of entries id;
+  state = state_at (published_count entries id) (tracks_of entries id);
+}
 
 -- the passes over the loading traces
 abbrev pub passes_of : List Entry → List PassView

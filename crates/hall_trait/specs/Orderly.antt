@@ -1,7 +1,8 @@
 -- Histories in which the ids count up and each trace's tracks are published in order.
 use Rattle.std.specs.Prelude.{◌≡◌, ℕ, ◌<◌, ◌≤◌, false, nat_lt, is_some, List, length}
 use Rattle.std.specs.List.{list_any, range_with_len}
-use Rattle.hall_trait.specs.History.{Entry, opened_ids, info_of, stream_of, tracks_of, published_count, seals, ends}
+use Rattle.hall_trait.specs.History.{Entry, opened_ids, info_of, stream_of, tracks_of, published_count, seals}
+use Rattle.hall_trait.specs.History.{ends}
 
 -- no entry is about the trace
 pub record IsUnborn (entries : List Entry) (id : ℕ) : Type 0 where
@@ -14,4 +15,5 @@ pub record IsOrderly (entries : List Entry) : Type 0 where
   pub ids : opened_ids entries ≡ range_with_len 1 (length (opened_ids entries))
   pub unborn : (id : ℕ) → length (opened_ids entries) < id → IsUnborn entries id
   pub counted : (id : ℕ) → published_count entries id ≤ tracks_of entries id
-  pub in_order : (id track : ℕ) → is_some (stream_of entries id track) ≡ nat_lt track (published_count entries id)
+  pub in_order : (id track : ℕ) → is_some (stream_of entries id track) ≡ nat_lt track
+      (published_count entries id)

@@ -5,5 +5,6 @@ use Rattle.hall_trait.specs.Answers.{HasRoom}
 use Rattle.hall_trait.specs.History.{Entry}
 use Rattle.hall_trait.specs.Kept.{IsKept}
 
-pub room_of : {entries : List Entry} {owed opened live : ℕ} → IsKept entries owed opened live → HasRoom entries 0
+pub room_of : {entries : List Entry} {owed opened live : ℕ} → IsKept entries owed opened live
+    → HasRoom entries 0
 room_of kept = omega (arith, kept.promises, kept.fits)

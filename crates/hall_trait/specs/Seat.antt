@@ -1,4 +1,5 @@
--- What one seat of a hall has, and how its calls change it. Other seats may act between any two calls of this one.
+-- What one seat of a hall has, and how its calls change it. Other seats may act between any two calls of this
+-- one.
 use Rattle.std.specs.Prelude.{◌≡◌, ℕ, Bool, List, [], ◌∷◌, ◌++◌, length}
 use Rattle.std.specs.Bool.{OnTrue}
 use Rattle.trace_base.specs.declared.asks.AskIds.{AskIds}
@@ -17,8 +18,8 @@ pub record PassView : Type 0 where
   pub to : ℕ
   pub state : PassState
 
--- A seat: its pins and load passes, the entries of the history that it has seen, which begin the history, and the
--- places of its own entries, rising.
+-- A seat: its pins and load passes, the entries of the history that it has seen, which begin the history, and
+-- the places of its own entries, rising.
 pub record Seat : Type 0 where
   pub pins : List PinView
   pub passes : List PassView
@@ -39,8 +40,8 @@ pub record MakesNoEntry (old new : Seat) : Type 0 where
   pub seen : new.seen ≡ old.seen
   pub places : new.places ≡ old.places
 
--- One entry of this seat is made, at this place. Before it the seat may see entries of others; a seat that is alone in
--- its hall sees none.
+-- One entry of this seat is made, at this place. Before it the seat may see entries of others; a seat that is
+-- alone in its hall sees none.
 pub record MakesEntry (alone : Bool) (old new : Seat) (entry : Entry) (place : ℕ) : Type 0 where
   pub before : List Entry
   pub grown : Begins old.seen before

@@ -1,11 +1,14 @@
-ghost use Rattle.std.specs.Prelude.{◌≡◌, ℕ, ◌+◌, ◌≤◌, ◌<◌, Bool, List, [], Option, Some, take, length, Contains, IfOk, IfErr, IfSome, OnErr, slice_get};
+ghost use Rattle.std.specs.Prelude.{◌≡◌, ℕ, ◌+◌, ◌≤◌, ◌<◌, Bool, List, [], Option, Some, take, length};
+ghost use Rattle.std.specs.Prelude.{Contains, IfOk, IfErr, IfSome, OnErr, slice_get};
 ghost use Rattle.std.specs.Arc.{arc_value};
 ghost use Rattle.std.specs.Bool.{OnTrue};
 ghost use Rattle.std.specs.Option.{option_copied};
 ghost use Rattle.trace_base.specs.Info.{IsLegalInfo};
 ghost use Rattle.trace_base.specs.declared.asks.PassState.TheVariants.{Straight, Whole};
-ghost use Rattle.hall_trait.specs.Answers.{Admits, AdmitRecords, Keeps, CoversAll, EndsLoad, Asks, AskRecords, RecordsNone, HasRoom};
-ghost use Rattle.hall_trait.specs.History.{Entry, Sealed, Dropped, FitsTrack, IsLegalHistory, info_of, stream_of};
+ghost use Rattle.hall_trait.specs.Answers.{Admits, AdmitRecords, Keeps, CoversAll, EndsLoad, Asks};
+ghost use Rattle.hall_trait.specs.Answers.{AskRecords, RecordsNone, HasRoom};
+ghost use Rattle.hall_trait.specs.History.{Entry, Sealed, Dropped, FitsTrack, IsLegalHistory, info_of};
+ghost use Rattle.hall_trait.specs.History.{stream_of};
 ghost use Rattle.hall_trait.specs.Pass.{pass_view, IsNext};
 ghost use Rattle.hall_trait.specs.Pin.{pin_view, first_id, id_at};
 ghost use Rattle.hall_trait.specs.Seat.{Seat, MakesNoEntry, Removes};
@@ -18,8 +21,8 @@ use std::alloc::Global;
 use std::sync::{Arc, Wait};
 use trace_base::{AskIds, TraceInfo, TrackStream};
 
-/// A seat of a hall, which keeps the open traces. All seats of a hall share one history. Between two calls of this
-/// seat others may act, so what it has seen begins what it sees next.
+/// A seat of a hall, which keeps the open traces. All seats of a hall share one history. Between two calls of
+/// this seat others may act, so what it has seen begins what it sees next.
 pub trait Hall {
     /// What the seat has, and has seen.
     ghost seat: { Self → Seat };
@@ -30,8 +33,9 @@ pub trait Hall {
     /// The numbers that this seat found used up, where the hall tells them.
     ghost limits: { Self → Option (List ℕ) };
 
-    /// Opens a trace, which is loading from then on. The places of all its entries are promised to it. `Spent` where
-    /// they don't fit any more, else `Full` where the most traces are open, and `Memory` where none was found.
+    /// Opens a trace, which is loading from then on. The places of all its entries are promised to it.
+    /// `Spent` where they don't fit any more, else `Full` where the most traces are open, and `Memory` where
+    /// none was found.
     fn admit<R: Wait>(
         &mut self,
         rt: &R,
@@ -41,8 +45,8 @@ pub trait Hall {
         ensures answer { Admits alone (seat self.old) (seat self.new) (arc_value info) result }
         ensures records { AdmitRecords (limits self.old) (limits self.new) result };
 
-    /// Publishes the next track of a pass, and answers the place. Of faults it answers `Memory` alone, and then the
-    /// pass is as before.
+    /// Publishes the next track of a pass, and answers the place. Of faults it answers `Memory` alone, and
+    /// then the pass is as before.
     fn keep<R: Wait>(
         &mut self,
         rt: &R,
@@ -50,8 +54,10 @@ pub trait Hall {
         s: TrackStream,
     ) -> Result<u64, HallFault>
         requires has { Contains (seat self.old).passes (pass_view pass.old) }
-        requires fits { (track : ℕ) × IsNext pass.old track × FitsTrack (seat self.old).seen pass.old.id track s }
-        ensures answer { (track : ℕ) → IsNext pass.old track → Keeps alone (seat self.old) (seat self.new) pass.old pass.new track s result }
+        requires fits { (track : ℕ) × IsNext pass.old track × FitsTrack (seat self.old).seen pass.old.id track
+            s }
+        ensures answer { (track : ℕ) → IsNext pass.old track → Keeps alone (seat self.old) (seat self.new)
+            pass.old pass.new track s result }
         ensures records { RecordsNone (limits self.old) (limits self.new) };
 
     /// Ends the load of a trace all of whose tracks are published. It answers the place, and takes no memory.
@@ -75,16 +81,18 @@ pub trait Hall {
         ensures answer { Asks alone (seat self.old) (seat self.new) ids result }
         ensures records { AskRecords (limits self.old) (limits self.new) result };
 
-    /// The stream of a track, counted from 0, of the pin's first trace; `None` exactly where it isn't published at
-    /// the pin's place.
+    /// The stream of a track, counted from 0, of the pin's first trace; `None` exactly where it isn't
+    /// published at the pin's place.
     fn stream(&self, pin: &Pin, track: u32) -> Option<&TrackStream>
         requires has { Contains (seat self.now).pins (pin_view pin.now) }
         requires within { track < pin.now.first.tracks }
-        ensures stream { option_copied result ≡ stream_of (take pin.now.place (seat self.now).seen) (first_id pin.now.ids) track }
-        ensures fits { IfSome result (λ s. FitsTrack (take pin.now.place (seat self.now).seen) (first_id pin.now.ids) track s.now) };
+        ensures stream { option_copied result ≡ stream_of (take pin.now.place (seat self.now).seen)
+            (first_id pin.now.ids) track }
+        ensures fits { IfSome result (λ s. FitsTrack (take pin.now.place (seat self.now).seen)
+            (first_id pin.now.ids) track s.now) };
 
-    /// What the hall keeps of a pinned trace beside its events: of the first for 0, of the second for 1. `Memory` is its
-    /// one fault.
+    /// What the hall keeps of a pinned trace beside its events: of the first for 0, of the second for 1.
+    /// `Memory` is its one fault.
     fn info<R: Wait>(
         &mut self,
         rt: &R,
@@ -93,7 +101,8 @@ pub trait Hall {
     ) -> Result<Arc<TraceInfo, Global>, HallFault>
         requires has { Contains (seat self.old).pins (pin_view pin.now) }
         requires which { which < 2 }
-        ensures info { IfOk result (λ info. info_of (take pin.now.place (seat self.old).seen) (id_at pin.now.ids which) ≡ Some (arc_value info)) }
+        ensures info { IfOk result (λ info. info_of (take pin.now.place (seat self.old).seen)
+            (id_at pin.now.ids which) ≡ Some (arc_value info)) }
         ensures memory { IfErr result (λ e. e ≡ Memory) }
         ensures same { seat self.new ≡ seat self.old }
         ensures records { RecordsNone (limits self.old) (limits self.new) };

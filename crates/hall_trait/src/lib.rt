@@ -1,5 +1,5 @@
-//! What a hall is to its callers: the trait `Hall`, over a history that seats share, and `PlainHall`, a hall of
-//! plain lists with one owner.
+//! What a hall is to its callers: the trait `Hall`, over a history that seats share, and `PlainHall`, a hall
+//! of plain lists with one owner.
 #![tactic(auto)]
 
 mod answers;

@@ -1,7 +1,7 @@
 use trace_base::PassState;
 
-/// The right to publish the tracks from `from` up to, not including, `to` of a loading trace. It is given back by
-/// `seal` or `abandon`, and can't be dropped.
+/// The right to publish the tracks from `from` up to, not including, `to` of a loading trace. It is given
+/// back by `seal` or `abandon`, and can't be dropped.
 #[derive(Debug)]
 pub struct LoadPass {
     /// The id of the trace.

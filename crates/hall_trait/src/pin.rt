@@ -1,7 +1,7 @@
 use trace_base::{AskIds, Brief};
 
-/// The hold of a running query on one or two traces, as of a place of the history. It is given back by `unpin`, and
-/// can't be dropped. In a pin on one trace `second` equals `first`.
+/// The hold of a running query on one or two traces, as of a place of the history. It is given back by
+/// `unpin`, and can't be dropped. In a pin on one trace `second` equals `first`.
 #[derive(Debug)]
 pub struct Pin {
     /// The ids of the traces.

@@ -17,8 +17,8 @@ use trace_base::{
     AskIds, Brief, MAX_OPEN_TRACES, MAX_PLACES, Memory, PassState, TraceInfo, TrackStream,
 };
 
-/// A hall of plain lists with one owner. It stores its history, and each entry but a question is kept in memory that
-/// was found when its trace was admitted.
+/// A hall of plain lists with one owner. It stores its history, and each entry but a question is kept in
+/// memory that was found when its trace was admitted.
 #[derive(Drop)]
 pub struct PlainHall {
     past: KeptHistory,
@@ -35,7 +35,8 @@ pub struct PlainHall {
 }
 
 impl PlainHall {
-    ghost use Rattle.std.specs.Prelude.{◌≡◌, ◌+◌, ◌<◌, [], None, Some, true, if◌then◌else◌, length, map, IsOkAnd, Ok};
+    ghost use Rattle.std.specs.Prelude.{◌≡◌, ◌+◌, ◌<◌, [], None, Some, true, if◌then◌else◌, length, map};
+    ghost use Rattle.std.specs.Prelude.{IsOkAnd, Ok};
     ghost use Rattle.std.specs.Arc.{arc_value};
     ghost use Rattle.std.specs.Option.{option_to_list};
     ghost use Rattle.trace_base.specs.Info.{IsLegalInfo};
@@ -48,7 +49,12 @@ impl PlainHall {
 
     /// A hall without traces.
     pub fn new(alloc: Global) -> Result<PlainHall, Memory>
-        ensures { IsOkAnd result (λ hall. seat_of hall ≡ record { pins = []; passes = []; seen = []; places = [] }) }
+        ensures { IsOkAnd result (λ hall. seat_of hall ≡ record {
+          pins = [];
+          passes = [];
+          seen = [];
+          places = [];
+        }) }
     {
         Ok(PlainHall {
             past: KeptHistory::new(alloc),
@@ -103,7 +109,8 @@ impl PlainHall {
 
     /// The number of the trace's tracks, if it is open.
     fn tracks(&self, id: u64) -> Option<u32>
-        ensures { result ≡ (if is_open (history self.now.past) id then Some (tracks_of (history self.now.past) id) else None) }
+        ensures { result ≡ (if is_open (history self.now.past) id
+            then Some (tracks_of (history self.now.past) id) else None) }
     {
         if self.past.ended(id) {
             return None;

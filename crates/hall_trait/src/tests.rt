@@ -22,7 +22,14 @@ fn info_of(
     tracks: Seq<Track>,
 ) -> Result<Arc<TraceInfo, Global>, Memory>
     ensures { IfOk result (λ info. arc_value info ≡ record {
-      names = record { end = 10; containers = containers; kinds = kinds; link_kinds = []; tracks = tracks; functions = [] };
+      names = record {
+        end = 10;
+        containers = containers;
+        kinds = kinds;
+        link_kinds = [];
+        tracks = tracks;
+        functions = [];
+      };
       messages = record { messages = []; unmatched = 0 };
     }) }
 {
@@ -54,8 +61,14 @@ fn bare(alloc: Global) -> Result<Arc<TraceInfo, Global>, Memory>
 // A trace with one track, from 0 to 10 nanoseconds.
 fn one_track(alloc: Global) -> Result<Arc<TraceInfo, Global>, Memory>
     ensures legal { IfOk result (λ info. IsLegalInfo (arc_value info)) }
-    ensures tracks { IfOk result (λ info. (arc_value info).names.tracks ≡ record { container = 0; kind = 0 } ∷ []) }
-    ensures containers { IfOk result (λ info. (arc_value info).names.containers ≡ record { name = 48 ∷ []; start = 0; end = 10 } ∷ []) }
+    ensures tracks { IfOk result (λ info. (arc_value info).names.tracks ≡ record { container = 0; kind = 0 }
+        ∷ []) }
+    ensures containers { IfOk result (λ info. (arc_value info).names.containers ≡ record {
+      name = 48
+          ∷ [];
+      start = 0;
+      end = 10;
+    } ∷ []) }
 {
     let mut containers = Seq::new(alloc);
     containers.push(Container {

@@ -4,4 +4,10 @@ use Rattle.trace_base.specs.declared.messages.Message.{Message}
 use Rattle.message_lists.specs.declared.arrivals.Arrival.{Arrival}
 
 abbrev pub message_to : LinkEvent → Arrival → Message
-message_to l a = record { from = l.container; to = a.container; send = l.time; receive = a.time; size = l.size }
+message_to l a = record {
+  from = l.container;
+  to = a.container;
+  send = l.time;
+  receive = a.time;
+  size = l.size;
+}

@@ -1,4 +1,5 @@
-ghost use Rattle.std.specs.Prelude.{◌≡◌, ℕ, List, OnOk, IfOk, map, filter, slice_get, ◌++◌, ◌∷◌, [], if◌then◌else◌};
+ghost use Rattle.std.specs.Prelude.{◌≡◌, ℕ, List, OnOk, IfOk, map, filter, slice_get, ◌++◌, ◌∷◌, []};
+ghost use Rattle.std.specs.Prelude.{if◌then◌else◌};
 ghost use Rattle.message_lists.specs.Arrivals.{arrivals_at, arrival_of, is_end_of, is_at};
 
 use crate::link_key::{LinkKey, key_of};
@@ -21,7 +22,8 @@ fn add<'a>(
     arrival: Arrival,
 ) -> Result<(), Memory>
     ensures { OnOk result ((kind : ℕ) (key : List ℕ) →
-        arrivals_at arrivals.new kind key ≡ arrivals_at arrivals.old kind key ++ (if is_at at.entry kind key then arrival ∷ [] else [])) }
+        arrivals_at arrivals.new kind key ≡ arrivals_at arrivals.old kind key
+        ++ (if is_at at.entry kind key then arrival ∷ [] else [])) }
 {
     let mut list = arrivals.remove(&at).unwrap_or(Vec::new(alloc));
     list.push(arrival)?;

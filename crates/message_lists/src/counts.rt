@@ -10,7 +10,8 @@ pub fn count<'a>(counts: &mut HashMap<LinkKey<'a>, usize>, at: LinkKey<'a>) -> R
     requires { count_at counts.old at.kind at.key.now + 1 < 2 ^ 64 }
     ensures before { IfOk result (λ n. n ≡ count_at counts.old at.entry.kind at.entry.key.now) }
     ensures after { IfOk result (λ n. (kind : ℕ) (key : List ℕ) →
-        count_at counts.new kind key ≡ count_at counts.old kind key + (if is_at at.entry kind key then 1 else 0)) }
+        count_at counts.new kind key ≡ count_at counts.old kind key
+        + (if is_at at.entry kind key then 1 else 0)) }
 {
     let before = counts.get(&at).copied().unwrap_or(0);
     counts.insert(at, before + 1)?;

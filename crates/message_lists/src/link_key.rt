@@ -2,7 +2,8 @@ ghost use Rattle.std.specs.Prelude.{◌≡◌};
 
 use trace_base::LinkEvent;
 
-/// What the two ends of a message have in common: the link type, by its place among the link types, and the key.
+/// What the two ends of a message have in common: the link type, by its place among the link types, and the
+/// key.
 #[derive(Clone, Copy, PartialEq, Eq, Hash)]
 pub struct LinkKey<'a> {
     pub kind: u32,

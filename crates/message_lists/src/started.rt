@@ -1,5 +1,6 @@
 //! The messages in the order of their starts.
-ghost use Rattle.std.specs.Prelude.{◌≡◌, ◌+◌, ◌<◌, ◌^◌, ℕ, List, None, IfOk, if◌then◌else◌, option_map, slice_get};
+ghost use Rattle.std.specs.Prelude.{◌≡◌, ◌+◌, ◌<◌, ◌^◌, ℕ, List, None, IfOk, if◌then◌else◌, option_map};
+ghost use Rattle.std.specs.Prelude.{slice_get};
 ghost use Rattle.message_lists.specs.Arrivals.{arrivals_at, count_at, is_start_of};
 ghost use Rattle.message_lists.specs.Started.{message_to};
 ghost use Rattle.trace_base.specs.Messages.{messages_started};
@@ -32,10 +33,12 @@ fn next<'a>(
 ) -> Result<Option<Message>, Memory>
     requires { count_at counts.old link.now.kind link.now.key + 1 < 2 ^ 64 }
     ensures message { IfOk result (λ m. m ≡ (if link.now.starts
-        then option_map (message_to link.now) (slice_get (arrivals_at arrivals.now link.now.kind link.now.key) (count_at counts.old link.now.kind link.now.key))
+        then option_map (message_to link.now) (slice_get (arrivals_at arrivals.now link.now.kind link.now.key)
+        (count_at counts.old link.now.kind link.now.key))
         else None)) }
     ensures counted { IfOk result (λ m. (kind : ℕ) (key : List ℕ) →
-        count_at counts.new kind key ≡ count_at counts.old kind key + (if is_start_of kind key link.now then 1 else 0)) }
+        count_at counts.new kind key ≡ count_at counts.old kind key
+        + (if is_start_of kind key link.now then 1 else 0)) }
 {
     if !link.starts {
         return Ok(None);

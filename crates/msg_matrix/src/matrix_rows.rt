@@ -27,10 +27,10 @@ fn rows_in_order(
     Ok(pairs.values().copied().collect(alloc)?)
 }
 
-/// The communication matrix of the messages that were sent within [a, b), in nanoseconds: for each pair of containers
-/// that has such a message their number, the sum of their sizes, the sum and the greatest of their times on the way,
-/// and how many were received before they were sent. The time on the way of such a message is 0. Rows rise by the
-/// sender, then the receiver. `Memory` where none was found.
+/// The communication matrix of the messages that were sent within [a, b), in nanoseconds: for each pair of
+/// containers that has such a message their number, the sum of their sizes, the sum and the greatest of their
+/// times on the way, and how many were received before they were sent. The time on the way of such a message
+/// is 0. Rows rise by the sender, then the receiver. `Memory` where none was found.
 pub fn matrix(alloc: Global, t: &MsgTable, a: u64, b: u64) -> Result<Matrix, Memory>
     ensures { IfOk result (λ m. m ≡ matrix_of t.now.messages a b) }
 {

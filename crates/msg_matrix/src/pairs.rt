@@ -45,7 +45,8 @@ pub fn add(pairs: &mut BTreeMap<(u32, u32), MatrixRow>, m: Message) -> Result<()
     ensures rows { OnOk result ((q : ℕ × ℕ) →
         row_at pairs.new q ≡ (if is_of q m then row_with (row_at pairs.old q) m else row_at pairs.old q)) }
     ensures in_order { OnOk result (keys pairs.new ≡ put_pair (pair_of m) (keys pairs.old)) }
-    ensures limits { OnOk result ((q : ℕ × ℕ) (n : ℕ) → IsOfAtMost (row_at pairs.old q) n → IsOfAtMost (row_at pairs.new q) (n + 1)) }
+    ensures limits { OnOk result ((q : ℕ × ℕ) (n : ℕ) → IsOfAtMost (row_at pairs.old q) n
+        → IsOfAtMost (row_at pairs.new q) (n + 1)) }
 {
     let key = (m.from, m.to);
     let row = pairs

@@ -1,5 +1,7 @@
 -- Which texts an event line has under the definitions.
-use Rattle.std.proofs.Common.{◌≡◌, ℕ, ◌+◌, ◌<◌, List, [], ◌∷◌, length, slice_get, nat_lt, cond, position, nat_eq, Bool, true, false, Option, Some, None, is_some, is_none, IfSome, Result, Ok, Err, refl, sym, ◌∙◌, ap, subst, arith}
+use Rattle.std.proofs.Common.{◌≡◌, ℕ, ◌+◌, ◌<◌, List, [], ◌∷◌, length, slice_get, nat_lt, cond, position}
+use Rattle.std.proofs.Common.{nat_eq, Bool, true, false, Option, Some, None, is_some, is_none, IfSome, Result}
+use Rattle.std.proofs.Common.{Ok, Err, refl, sym, ◌∙◌, ap, subst, arith}
 use Rattle.std.specs.List.{AllByRecursion, find, position_or_len}
 use Rattle.std.specs.Map.{lookup}
 use Rattle.indexmap.specs.IndexMap.{insert_entry}
@@ -22,29 +24,35 @@ use Rattle.paje_defs.specs.Definition.{AreWhole, IsWhole, is_named, place_of, pl
 use Rattle.paje_defs.specs.Numbers.{event_number_of}
 use Rattle.paje_defs.specs.Role.{first_name, needed, second_name}
 use Rattle.paje_defs.specs.Lines.{definition_of}
-use Rattle.paje_defs.specs.Events.{Event, RolesStand, Tells, event_numbered, event_of, event_under, role_text, text_at, time_of_text, timed}
+use Rattle.paje_defs.specs.Events.{Event, RolesStand, Tells, event_numbered, event_of, event_under, role_text}
+use Rattle.paje_defs.specs.Events.{text_at, time_of_text, timed}
 use Rattle.paje_defs.specs.Texts.{HasNeeded, text_of}
 
 -- ---- where a field stands
 
 position_within : {X : Type 0} (p : X → Bool) (xs : List X) → IfSome (position p xs) (λ at. at < length xs)
-position_within p xs = by_test (position_or_len p xs) (length xs) (nat_lt (position_or_len p xs) (length xs)) refl
+position_within p xs = by_test (position_or_len p xs) (length xs) (nat_lt (position_or_len p xs) (length xs))
+    refl
   where
     by_test : (at len : ℕ) (b : Bool) → nat_lt at len ≡ b → IfSome (cond b (Some at) None) (λ at. at < len)
     by_test at len true e = ltb-true at len e
     by_test at len false e = tt
 
-or_within : (len : ℕ) (first second : Option ℕ) → IfSome first (λ at. at < len) → IfSome second (λ at. at < len) → IfSome (option_or first second) (λ at. at < len)
+or_within : (len : ℕ) (first second : Option ℕ) → IfSome first (λ at. at < len)
+    → IfSome second (λ at. at < len) → IfSome (option_or first second) (λ at. at < len)
 or_within len None second a b = b
 or_within len (Some place) second a b = a
 
-second_within : (fields : List Field) (name : Option FieldName) → IfSome (option_and_then (place_of_name fields) name) (λ at. at < length fields)
+second_within : (fields : List Field) (name : Option FieldName)
+    → IfSome (option_and_then (place_of_name fields) name) (λ at. at < length fields)
 second_within fields None = tt
 second_within fields (Some name) = position_within (is_named name) fields
 
-pub place_within : (event : EventName) (fields : List Field) (role : Role) → IfSome (place_of event fields role) (λ at. at < length fields)
+pub place_within : (event : EventName) (fields : List Field) (role : Role)
+    → IfSome (place_of event fields role) (λ at. at < length fields)
 place_within event fields role =
-    or_within (length fields) (place_of_name fields (first_name role)) (option_and_then (place_of_name fields) (second_name event role))
+    or_within (length fields) (place_of_name fields (first_name role))
+    (option_and_then (place_of_name fields) (second_name event role))
     (position_within (is_named (first_name role)) fields) (second_within fields (second_name event role))
 
 -- ---- the definition of an event line
@@ -63,35 +71,46 @@ timed_by : (d : Definition) (time : Result ℕ DateFault) (e : Event) → timed 
 timed_by d (Ok time) e is = ap (definition_or d) is
 timed_by d (Err f) e is = absurd (true≢false (sym (ap is_ok is)))
 
-under_by : (entries : List (ℕ × Definition)) (words : List (List ℕ)) (number : ℕ) (d : Definition) (e : Event) (b : Bool) → definition_of entries number ≡ Some d
-    → nat_lt (length d.fields) (length words) ≡ b → cond b (timed d (time_of_text (role_text d words roles.Time))) (Err faults.TooFew) ≡ Ok e → IsFound entries words e.definition
+under_by : (entries : List (ℕ × Definition)) (words : List (List ℕ)) (number : ℕ) (d : Definition) (e : Event)
+    (b : Bool) → definition_of entries number ≡ Some d
+    → nat_lt (length d.fields) (length words) ≡ b
+    → cond b (timed d (time_of_text (role_text d words roles.Time))) (Err faults.TooFew) ≡ Ok e
+    → IsFound entries words e.definition
 under_by entries words number d e true found test is =
     subst (IsFound entries words) (timed_by d (time_of_text (role_text d words roles.Time)) e is)
     (record { number = number; found = found; enough = ltb-true (length d.fields) (length words) test })
 under_by entries words number d e false found test is = absurd (true≢false (sym (ap is_ok is)))
 
-numbered_by : (entries : List (ℕ × Definition)) (words : List (List ℕ)) (number : ℕ) (o : Option Definition) (e : Event) → definition_of entries number ≡ o
+numbered_by : (entries : List (ℕ × Definition)) (words : List (List ℕ)) (number : ℕ) (o : Option Definition)
+    (e : Event) → definition_of entries number ≡ o
     → event_under words o ≡ Ok e → IsFound entries words e.definition
 numbered_by entries words number None e found is = absurd (true≢false (sym (ap is_ok is)))
-numbered_by entries words number (Some d) e found is = under_by entries words number d e (nat_lt (length d.fields) (length words)) found refl is
+numbered_by entries words number (Some d) e found is = under_by entries words number d e
+    (nat_lt (length d.fields) (length words)) found refl is
 
-found_by : (entries : List (ℕ × Definition)) (words : List (List ℕ)) (number : Option ℕ) (e : Event) → event_numbered entries words number ≡ Ok e → IsFound entries words e.definition
+found_by : (entries : List (ℕ × Definition)) (words : List (List ℕ)) (number : Option ℕ) (e : Event)
+    → event_numbered entries words number ≡ Ok e → IsFound entries words e.definition
 found_by entries words None e is = absurd (true≢false (sym (ap is_ok is)))
-found_by entries words (Some number) e is = numbered_by entries words number (definition_of entries number) e refl is
+found_by entries words (Some number) e is = numbered_by entries words number (definition_of entries number) e
+    refl is
 
-event_found : (entries : List (ℕ × Definition)) (words : List (List ℕ)) (e : Event) → event_of entries words ≡ Ok e → IsFound entries words e.definition
-event_found entries words e is = found_by entries words (option_and_then event_number_of (slice_get words 0)) e is
+event_found : (entries : List (ℕ × Definition)) (words : List (List ℕ)) (e : Event)
+    → event_of entries words ≡ Ok e → IsFound entries words e.definition
+event_found entries words e is = found_by entries words (option_and_then event_number_of (slice_get words 0))
+    e is
 
 -- ---- the texts of its roles
 
-text_stands : (words : List (List ℕ)) (len : ℕ) (place : Option ℕ) → len < length words → IfSome place (λ at. at < len) → is_some (text_at words place) ≡ is_some place
+text_stands : (words : List (List ℕ)) (len : ℕ) (place : Option ℕ) → len < length words
+    → IfSome place (λ at. at < len) → is_some (text_at words place) ≡ is_some place
 text_stands words len None enough within = refl
 text_stands words len (Some at) enough within = ap is_some (slice_get-get_or words (at + 1) [] (omega arith))
 
 ok_is : (a b : Event) (r : Result Event EventFault) → r ≡ Ok a → r ≡ Ok b → a ≡ b
 ok_is a b r one other = ap (λ r. result_unwrap_or r a) (sym one ∙ other)
 
-pub roles_stand : (entries : List (ℕ × Definition)) (words : List (List ℕ)) (r : Result Fields EventFault) → Tells words r (event_of entries words)
+pub roles_stand : (entries : List (ℕ × Definition)) (words : List (List ℕ)) (r : Result Fields EventFault)
+    → Tells words r (event_of entries words)
     → (e : Event) → event_of entries words ≡ Ok e → IfOk r (RolesStand e.definition)
 roles_stand entries words (Err f) tells e is = tt
 roles_stand entries words (Ok f) (told, wanted, time, are) e is = λ role.
@@ -99,41 +118,56 @@ roles_stand entries words (Ok f) (told, wanted, time, are) e is = λ role.
     let found = event_found entries words e is in
     ap is_some (are.texts role)
     ∙ (ap (λ t. is_some (role_text t.definition words role)) same
-    ∙ text_stands words (length e.definition.fields) (place_of e.definition.event e.definition.fields role) found.enough
+    ∙ text_stands words (length e.definition.fields) (place_of e.definition.event e.definition.fields role)
+    found.enough
     (place_within e.definition.event e.definition.fields role))
 
 -- ---- the roles that the event needs
 
-pub lookup_whole : (entries : List (ℕ × Definition)) (test : ℕ → Bool) → AreWhole entries → IfSome (lookup test entries) IsWhole
+pub lookup_whole : (entries : List (ℕ × Definition)) (test : ℕ → Bool) → AreWhole entries
+    → IfSome (lookup test entries) IsWhole
 unfolding AreWhole
 lookup_whole [] test whole = tt
 lookup_whole (entry ∷ entries) test whole = by_test (test entry.0) (lookup_whole entries test whole.1)
   where
-    by_test : (b : Bool) → IfSome (lookup test entries) IsWhole → IfSome (cond b (Some entry.1) (lookup test entries)) IsWhole
+    by_test : (b : Bool) → IfSome (lookup test entries) IsWhole
+        → IfSome (cond b (Some entry.1) (lookup test entries)) IsWhole
     by_test true later = whole.0
     by_test false later = later
 
-pub insert_whole : (entries : List (ℕ × Definition)) (number : ℕ) (d : Definition) → AreWhole entries → IsWhole d → AreWhole (insert_entry nat_eq entries number d)
+pub insert_whole : (entries : List (ℕ × Definition)) (number : ℕ) (d : Definition) → AreWhole entries
+    → IsWhole d → AreWhole (insert_entry nat_eq entries number d)
 unfolding AreWhole
 insert_whole [] number d whole is = (is, tt)
-insert_whole (entry ∷ entries) number d whole is = by_test (nat_eq number entry.0) (insert_whole entries number d whole.1 is)
+insert_whole (entry ∷ entries) number d whole is = by_test (nat_eq number entry.0)
+    (insert_whole entries number d whole.1 is)
   where
-    by_test : (b : Bool) → AreWhole (insert_entry nat_eq entries number d) → AreWhole (cond b ((entry.0, d) ∷ entries) (entry ∷ insert_entry nat_eq entries number d))
+    by_test : (b : Bool) → AreWhole (insert_entry nat_eq entries number d)
+        → AreWhole (cond b ((entry.0, d) ∷ entries) (entry ∷ insert_entry nat_eq entries number d))
     by_test true later = (is, whole.1)
     by_test false later = (whole.0, later)
 
-none_missing : (event : EventName) (fields : List Field) (t : Texts) (asked : List Role) → ((role : Role) → is_some (text_of t role) ≡ is_some (place_of event fields role))
-    → is_some (find (λ role. is_none (place_of event fields role)) asked) ≡ false → AllByRecursion (λ role. IsSome (text_of t role)) asked
+none_missing : (event : EventName) (fields : List Field) (t : Texts) (asked : List Role)
+    → ((role : Role) → is_some (text_of t role) ≡ is_some (place_of event fields role))
+    → is_some (find (λ role. is_none (place_of event fields role)) asked) ≡ false
+    → AllByRecursion (λ role. IsSome (text_of t role)) asked
 none_missing event fields t [] stand none = tt
-none_missing event fields t (role ∷ asked) stand none = by_place (place_of event fields role) (stand role) none (none_missing event fields t asked stand)
+none_missing event fields t (role ∷ asked) stand none = by_place (place_of event fields role) (stand role)
+    none (none_missing event fields t asked stand)
   where
-    by_place : (place : Option ℕ) → is_some (text_of t role) ≡ is_some place → is_some (cond (is_none place) (Some role) (find (λ role. is_none (place_of event fields role)) asked)) ≡ false
-        → (is_some (find (λ role. is_none (place_of event fields role)) asked) ≡ false → AllByRecursion (λ role. IsSome (text_of t role)) asked)
+    by_place : (place : Option ℕ) → is_some (text_of t role) ≡ is_some place
+        → is_some (cond (is_none place) (Some role)
+        (find (λ role. is_none (place_of event fields role)) asked)) ≡ false
+        → (is_some (find (λ role. is_none (place_of event fields role)) asked) ≡ false
+        → AllByRecursion (λ role. IsSome (text_of t role)) asked)
         → AllByRecursion (λ role. IsSome (text_of t role)) (role ∷ asked)
     by_place None stands e later = absurd (true≢false e)
     by_place (Some at) stands e later = (stands, later e)
 
-pub has_needed : (d : Definition) (words : List (List ℕ)) (t : Texts) → ((role : Role) → text_of t role ≡ role_text d words role) → length d.fields < length words → IsWhole d → HasNeeded d.event t
+pub has_needed : (d : Definition) (words : List (List ℕ)) (t : Texts)
+    → ((role : Role) → text_of t role ≡ role_text d words role) → length d.fields < length words → IsWhole d
+    → HasNeeded d.event t
 has_needed d words t texts enough whole =
     none_missing d.event d.fields t (needed d.event)
-    (λ role. ap is_some (texts role) ∙ text_stands words (length d.fields) (place_of d.event d.fields role) enough (place_within d.event d.fields role)) whole
+    (λ role. ap is_some (texts role) ∙ text_stands words (length d.fields) (place_of d.event d.fields role)
+    enough (place_within d.event d.fields role)) whole

@@ -1,43 +1,57 @@
 -- What is begun and what is complete, after one more line.
-use Rattle.std.proofs.Common.{◌≡◌, ℕ, ◌+◌, ◌-◌, List, [], ◌∷◌, ◌++◌, ◌||◌, length, drop, filter, filter_map, Bool, true, false, not, Option, Some, None, cond, refl, sym, ◌∙◌, ap, arith}
+use Rattle.std.proofs.Common.{◌≡◌, ℕ, ◌+◌, ◌-◌, List, [], ◌∷◌, ◌++◌, ◌||◌, length, drop, filter, filter_map}
+use Rattle.std.proofs.Common.{Bool, true, false, not, Option, Some, None, cond, refl, sym, ◌∙◌, ap, arith}
 use Rattle.std.specs.List.{after_last, cons_option, last_or, prefix_len, suffix_len}
 use Rattle.std.specs.Option.{option_and_then, option_map, option_to_list, option_zip}
-use Rattle.std.proofs.lemmas.List.{append-nil, append_assoc, drop-append-le, drop_all, length-append, reverse-append}
+use Rattle.std.proofs.lemmas.List.{append-nil, append_assoc, drop-append-le, drop_all, length-append}
+use Rattle.std.proofs.lemmas.List.{reverse-append}
 use Rattle.std.proofs.lemmas.List.Elements.{filter-append, filter_map-append}
 use Rattle.paje_defs.specs.declared.event_name.EventName.{EventName}
 use Rattle.paje_defs.specs.declared.field.Field.{Field}
 use Rattle.paje_defs.specs.declared.begun.Begun.{Begun}
-use Rattle.paje_defs.specs.Lines.{Line, begins, begun_by, begun_in, borders, complete_in, defined_by, defined_event, defined_number, ended_at, ends, field_of, placed, placed_behind}
+use Rattle.paje_defs.specs.Lines.{Line, begins, begun_by, begun_in, borders, complete_in, defined_by}
+use Rattle.paje_defs.specs.Lines.{defined_event, defined_number, ended_at, ends, field_of, placed}
+use Rattle.paje_defs.specs.Lines.{placed_behind}
 use Rattle.paje_defs.specs.Table.{grown}
 
 -- ---- lists
 
-after_last-kept : {X : Type 0} (p : X → Bool) (xs : List X) (x : X) → p x ≡ true → after_last p (xs ++ x ∷ []) ≡ []
+after_last-kept : {X : Type 0} (p : X → Bool) (xs : List X) (x : X) → p x ≡ true
+    → after_last p (xs ++ x ∷ []) ≡ []
 after_last-kept p xs x passes =
     let none : suffix_len (λ y. not (p y)) (xs ++ x ∷ []) ≡ 0 =
-    ap (prefix_len (λ y. not (p y))) (reverse-append xs (x ∷ [])) ∙ ap (λ b. cond (not b) (1 + suffix_len (λ y. not (p y)) xs) 0) passes in
-    drop_all (length (xs ++ x ∷ []) - suffix_len (λ y. not (p y)) (xs ++ x ∷ [])) (xs ++ x ∷ []) (omega (arith, none))
+    ap (prefix_len (λ y. not (p y))) (reverse-append xs (x ∷ [])) ∙ ap
+    (λ b. cond (not b) (1 + suffix_len (λ y. not (p y)) xs) 0) passes in
+    drop_all (length (xs ++ x ∷ []) - suffix_len (λ y. not (p y)) (xs ++ x ∷ [])) (xs ++ x ∷ [])
+    (omega (arith, none))
 
-after_last-more : {X : Type 0} (p : X → Bool) (xs : List X) (x : X) → p x ≡ false → after_last p (xs ++ x ∷ []) ≡ after_last p xs ++ x ∷ []
+after_last-more : {X : Type 0} (p : X → Bool) (xs : List X) (x : X) → p x ≡ false
+    → after_last p (xs ++ x ∷ []) ≡ after_last p xs ++ x ∷ []
 after_last-more p xs x fails =
     let tail = suffix_len (λ y. not (p y)) xs in
     let one : suffix_len (λ y. not (p y)) (xs ++ x ∷ []) ≡ 1 + tail =
-    ap (prefix_len (λ y. not (p y))) (reverse-append xs (x ∷ [])) ∙ ap (λ b. cond (not b) (1 + tail) 0) fails in
+    ap (prefix_len (λ y. not (p y))) (reverse-append xs (x ∷ [])) ∙ ap (λ b. cond (not b) (1 + tail) 0) fails
+    in
     let count : length (xs ++ x ∷ []) ≡ length xs + 1 = length-append xs (x ∷ []) in
-    let at : length (xs ++ x ∷ []) - suffix_len (λ y. not (p y)) (xs ++ x ∷ []) ≡ length xs - tail = omega (arith, one, count) in
+    let at : length (xs ++ x ∷ []) - suffix_len (λ y. not (p y)) (xs ++ x ∷ []) ≡ length xs - tail =
+    omega (arith, one, count) in
     ap (λ n. drop n (xs ++ x ∷ [])) at ∙ drop-append-le (length xs - tail) xs (x ∷ []) (omega arith)
 
 last_or-append : {X : Type 0} (o : Option X) (xs : List X) (x : X) → last_or o (xs ++ x ∷ []) ≡ Some x
 last_or-append o [] x = refl
 last_or-append o (y ∷ xs) x = last_or-append (Some y) xs x
 
-last-kept : {X : Type 0} (p : X → Bool) (xs : List X) (x : X) → p x ≡ true → last_or None (filter p (xs ++ x ∷ [])) ≡ Some x
+last-kept : {X : Type 0} (p : X → Bool) (xs : List X) (x : X) → p x ≡ true
+    → last_or None (filter p (xs ++ x ∷ [])) ≡ Some x
 last-kept p xs x passes =
-    ap (last_or None) (filter-append p xs (x ∷ []) ∙ ap (λ b. filter p xs ++ cond b (x ∷ []) []) passes) ∙ last_or-append None (filter p xs) x
+    ap (last_or None) (filter-append p xs (x ∷ []) ∙ ap (λ b. filter p xs ++ cond b (x ∷ []) []) passes) ∙
+    last_or-append None (filter p xs) x
 
-last-more : {X : Type 0} (p : X → Bool) (xs : List X) (x : X) → p x ≡ false → last_or None (filter p (xs ++ x ∷ [])) ≡ last_or None (filter p xs)
+last-more : {X : Type 0} (p : X → Bool) (xs : List X) (x : X) → p x ≡ false
+    → last_or None (filter p (xs ++ x ∷ [])) ≡ last_or None (filter p xs)
 last-more p xs x fails =
-    ap (last_or None) (filter-append p xs (x ∷ []) ∙ ap (λ b. filter p xs ++ cond b (x ∷ []) []) fails ∙ append-nil (filter p xs))
+    ap (last_or None) (filter-append p xs (x ∷ []) ∙ ap (λ b. filter p xs ++ cond b (x ∷ []) []) fails ∙
+    append-nil (filter p xs))
 
 one_or_none : {X : Type 0} (o : Option X) → cons_option o [] ≡ option_to_list o
 one_or_none None = refl
@@ -46,65 +60,100 @@ one_or_none (Some x) = refl
 -- ---- what is begun
 
 abbrev pub begun_after : Option Begun → Line → Option Begun
-begun_after begun line = cond (begins line.words) (defined_by [] line) (cond (ends line.words) None (option_map (grown (option_to_list (field_of line.words))) begun))
+begun_after begun line = cond (begins line.words) (defined_by [] line)
+    (cond (ends line.words) None (option_map (grown (option_to_list (field_of line.words))) begun))
 
-more_fields : (fields more : List Field) (line : Line) → begun_by (fields ++ more) line ≡ option_map (grown more) (begun_by fields line)
+more_fields : (fields more : List Field) (line : Line) → begun_by (fields ++ more) line ≡ option_map
+    (grown more) (begun_by fields line)
 more_fields fields more line = by (begins line.words) (defined_number line.words) (defined_event line.words)
   where
     by : (b : Bool) (number : Option ℕ) (event : Option EventName)
-        → cond b (option_map (λ both. record { number = both.0; definition = record { line = line.number; event = both.1; fields = fields ++ more } }) (option_zip number event)) None
-        ≡ option_map (grown more) (cond b (option_map (λ both. record { number = both.0; definition = record { line = line.number; event = both.1; fields = fields } }) (option_zip number event)) None)
+        → cond b
+        (option_map (λ both. record {
+          number = both.0;
+          definition =
+              record { line = line.number; event = both.1; fields = fields ++ more };
+        })
+        (option_zip number event)) None
+        ≡ option_map (grown more) (cond b
+        (option_map (λ both. record {
+          number = both.0;
+          definition =
+              record { line = line.number; event = both.1; fields = fields };
+        }) (option_zip number event)) None)
     by false number event = refl
     by true None event = refl
     by true (Some number) None = refl
     by true (Some number) (Some event) = refl
 
-more_fields_of : (fields more : List Field) (last : Option Line) → option_and_then (begun_by (fields ++ more)) last ≡ option_map (grown more) (option_and_then (begun_by fields) last)
+more_fields_of : (fields more : List Field) (last : Option Line) → option_and_then (begun_by (fields ++ more))
+    last ≡ option_map (grown more) (option_and_then (begun_by fields) last)
 more_fields_of fields more None = refl
 more_fields_of fields more (Some line) = more_fields fields more line
 
 abbrev pub fields_in : List Line → List Field
 fields_in lines = filter_map (λ line. field_of line.words) lines
 
-begun-border : (lines : List Line) (line : Line) → borders line ≡ true → begun_in (lines ++ line ∷ []) ≡ begun_by [] line
+begun-border : (lines : List Line) (line : Line) → borders line ≡ true
+    → begun_in (lines ++ line ∷ []) ≡ begun_by [] line
 begun-border lines line border =
-    ap (λ last. option_and_then (begun_by (fields_in (after_last borders (lines ++ line ∷ [])))) last) (last-kept borders lines line border)
+    ap (λ last. option_and_then (begun_by (fields_in (after_last borders (lines ++ line ∷ [])))) last)
+    (last-kept borders lines line border)
     ∙ ap (λ behind. begun_by (fields_in behind) line) (after_last-kept borders lines line border)
 
-begun-field : (lines : List Line) (line : Line) → borders line ≡ false → begun_in (lines ++ line ∷ []) ≡ option_map (grown (option_to_list (field_of line.words))) (begun_in lines)
+begun-field : (lines : List Line) (line : Line) → borders line ≡ false
+    → begun_in (lines ++ line ∷ []) ≡ option_map (grown (option_to_list (field_of line.words)))
+    (begun_in lines)
 begun-field lines line inner =
     let behind = after_last borders lines in
-    let fields : fields_in (after_last borders (lines ++ line ∷ [])) ≡ fields_in behind ++ option_to_list (field_of line.words) =
+    let fields : fields_in (after_last borders (lines ++ line ∷ [])) ≡ fields_in behind
+    ++ option_to_list (field_of line.words) =
     ap fields_in (after_last-more borders lines line inner)
-    ∙ (filter_map-append (λ line. field_of line.words) behind (line ∷ []) ∙ ap (λ more. fields_in behind ++ more) (one_or_none (field_of line.words))) in
-    ap (λ last. option_and_then (begun_by (fields_in (after_last borders (lines ++ line ∷ [])))) last) (last-more borders lines line inner)
+    ∙ (filter_map-append (λ line. field_of line.words) behind (line ∷ []) ∙ ap (λ more. fields_in behind
+    ++ more) (one_or_none (field_of line.words))) in
+    ap (λ last. option_and_then (begun_by (fields_in (after_last borders (lines ++ line ∷ [])))) last)
+    (last-more borders lines line inner)
     ∙ (ap (λ fields. option_and_then (begun_by fields) (last_or None (filter borders lines))) fields
-    ∙ more_fields_of (fields_in behind) (option_to_list (field_of line.words)) (last_or None (filter borders lines)))
+    ∙ more_fields_of (fields_in behind) (option_to_list (field_of line.words))
+    (last_or None (filter borders lines)))
 
-pub begun-more : (lines : List Line) (line : Line) → begun_in (lines ++ line ∷ []) ≡ begun_after (begun_in lines) line
-begun-more lines line = by (begins line.words) (ends line.words) refl refl (begun-border lines line) (begun-field lines line)
+pub begun-more : (lines : List Line) (line : Line) → begun_in (lines ++ line ∷ []) ≡ begun_after
+    (begun_in lines) line
+begun-more lines line = by (begins line.words) (ends line.words) refl refl (begun-border lines line)
+    (begun-field lines line)
   where
-    by : (b e : Bool) → begins line.words ≡ b → ends line.words ≡ e → (borders line ≡ true → begun_in (lines ++ line ∷ []) ≡ begun_by [] line)
-        → (borders line ≡ false → begun_in (lines ++ line ∷ []) ≡ option_map (grown (option_to_list (field_of line.words))) (begun_in lines))
-        → begun_in (lines ++ line ∷ []) ≡ cond b (defined_by [] line) (cond e None (option_map (grown (option_to_list (field_of line.words))) (begun_in lines)))
-    by true e is other border inner = border (ap (λ b. b || ends line.words) is) ∙ ap (λ b. cond b (defined_by [] line) None) is
-    by false true is other border inner = border (ap (λ b. b || ends line.words) is ∙ other) ∙ ap (λ b. cond b (defined_by [] line) None) is
+    by : (b e : Bool) → begins line.words ≡ b → ends line.words ≡ e
+        → (borders line ≡ true → begun_in (lines ++ line ∷ []) ≡ begun_by [] line)
+        → (borders line ≡ false → begun_in (lines ++ line ∷ []) ≡ option_map
+        (grown (option_to_list (field_of line.words))) (begun_in lines))
+        → begun_in (lines ++ line ∷ []) ≡ cond b (defined_by [] line)
+        (cond e None (option_map (grown (option_to_list (field_of line.words))) (begun_in lines)))
+    by true e is other border inner = border (ap (λ b. b || ends line.words) is) ∙ ap
+        (λ b. cond b (defined_by [] line) None) is
+    by false true is other border inner = border (ap (λ b. b || ends line.words) is ∙ other) ∙ ap
+        (λ b. cond b (defined_by [] line) None) is
     by false false is other border inner = inner (ap (λ b. b || ends line.words) is ∙ other)
 
 -- ---- what is complete
 
-placed_behind-more : (before lines : List Line) (line : Line) → placed_behind before (lines ++ line ∷ []) ≡ placed_behind before lines ++ record { before = before ++ lines; line = line } ∷ []
-placed_behind-more before [] line = ap (λ all. record { before = all; line = line } ∷ []) (sym (append-nil before))
+placed_behind-more : (before lines : List Line) (line : Line) → placed_behind before (lines ++ line ∷ []) ≡
+    placed_behind before lines ++ record { before = before ++ lines; line = line } ∷ []
+placed_behind-more before [] line = ap (λ all. record { before = all; line = line } ∷ [])
+    (sym (append-nil before))
 placed_behind-more before (x ∷ lines) line =
     ap (λ rest. record { before = before; line = x } ∷ rest)
     (placed_behind-more (before ++ x ∷ []) lines line
-    ∙ ap (λ all. placed_behind (before ++ x ∷ []) lines ++ record { before = all; line = line } ∷ []) (append_assoc before (x ∷ []) lines))
+    ∙ ap (λ all. placed_behind (before ++ x ∷ []) lines ++ record { before = all; line = line } ∷ [])
+    (append_assoc before (x ∷ []) lines))
 
-pub placed-more : (lines : List Line) (line : Line) → placed (lines ++ line ∷ []) ≡ placed lines ++ record { before = lines; line = line } ∷ []
+pub placed-more : (lines : List Line) (line : Line) → placed (lines ++ line ∷ []) ≡ placed lines
+    ++ record { before = lines; line = line } ∷ []
 placed-more lines line = placed_behind-more [] lines line
 
-pub complete-more : (lines : List Line) (line : Line) → complete_in (lines ++ line ∷ []) ≡ complete_in lines ++ option_to_list (ended_at (record { before = lines; line = line }))
+pub complete-more : (lines : List Line) (line : Line) → complete_in (lines ++ line ∷ []) ≡ complete_in lines
+    ++ option_to_list (ended_at (record { before = lines; line = line }))
 complete-more lines line =
     ap (filter_map ended_at) (placed-more lines line)
     ∙ (filter_map-append ended_at (placed lines) (record { before = lines; line = line } ∷ [])
-    ∙ ap (λ more. complete_in lines ++ more) (one_or_none (ended_at (record { before = lines; line = line }))))
+    ∙ ap (λ more. complete_in lines ++ more)
+    (one_or_none (ended_at (record { before = lines; line = line }))))

@@ -22,7 +22,8 @@ place_of_name fields name = position (is_named name) fields
 
 -- the first field of the first name, else the first field of the second
 abbrev pub place_of : EventName → List Field → Role → Option ℕ
-place_of event fields role = option_or (place_of_name fields (first_name role)) (option_and_then (place_of_name fields) (second_name event role))
+place_of event fields role = option_or (place_of_name fields (first_name role))
+    (option_and_then (place_of_name fields) (second_name event role))
 
 -- the first needed role that no field has
 abbrev pub missing : EventName → List Field → Option Role

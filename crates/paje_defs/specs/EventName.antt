@@ -27,7 +27,11 @@ event_text events.AddVariable = codes "PajeAddVariable"
 event_text events.SubVariable = codes "PajeSubVariable"
 
 abbrev pub all_events : List EventName
-all_events = events.DefineContainerType ∷ events.DefineStateType ∷ events.DefineEventType ∷ events.DefineVariableType ∷ events.DefineLinkType ∷ events.DefineEntityValue ∷ events.CreateContainer ∷ events.DestroyContainer ∷ events.PushState ∷ events.SetState ∷ events.PopState ∷ events.ResetState ∷ events.StartLink ∷ events.EndLink ∷ events.NewEvent ∷ events.SetVariable ∷ events.AddVariable ∷ events.SubVariable ∷ []
+all_events = events.DefineContainerType ∷ events.DefineStateType ∷ events.DefineEventType
+    ∷ events.DefineVariableType ∷ events.DefineLinkType ∷ events.DefineEntityValue ∷ events.CreateContainer
+    ∷ events.DestroyContainer ∷ events.PushState ∷ events.SetState ∷ events.PopState ∷ events.ResetState
+    ∷ events.StartLink ∷ events.EndLink ∷ events.NewEvent ∷ events.SetVariable ∷ events.AddVariable
+    ∷ events.SubVariable ∷ []
 
 -- the event of a name
 abbrev pub event_name_of : List ℕ → Option EventName

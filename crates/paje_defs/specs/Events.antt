@@ -1,5 +1,6 @@
 -- What an event line tells under the definitions.
-use Rattle.std.specs.Prelude.{◌≡◌, ℕ, ◌+◌, List, length, slice_get, is_some, Option, Some, None, Ok, Err, Result, MatchResult, if◌then◌else◌, nat_lt}
+use Rattle.std.specs.Prelude.{◌≡◌, ℕ, ◌+◌, List, length, slice_get, is_some, Option, Some, None, Ok, Err}
+use Rattle.std.specs.Prelude.{Result, MatchResult, if◌then◌else◌, nat_lt}
 use Rattle.std.specs.Option.{option_and_then}
 use Rattle.paje_lex.specs.declared.date_fault.DateFault.{DateFault}
 use Rattle.paje_lex.specs.DateReading.{date_of}
@@ -50,7 +51,8 @@ field_size (Some f) text = typed_size f.kind text
 
 -- the size that the field of the role Size tells
 abbrev pub size_in : Definition → List (List ℕ) → ℕ
-size_in d words = field_size (option_and_then (slice_get d.fields) (place_of d.event d.fields roles.Size)) (role_text d words roles.Size)
+size_in d words = field_size (option_and_then (slice_get d.fields) (place_of d.event d.fields roles.Size))
+    (role_text d words roles.Size)
 
 -- only the start of a link has one
 abbrev pub message_size : EventName → ℕ → ℕ
@@ -70,7 +72,8 @@ timed d (Ok time) = Ok (record { definition = d; time = time })
 
 abbrev pub event_under : List (List ℕ) → Option Definition → Result Event EventFault
 event_under words None = Err faults.UnknownNumber
-event_under words (Some d) = if nat_lt (length d.fields) (length words) then timed d (time_of_text (role_text d words roles.Time)) else Err faults.TooFew
+event_under words (Some d) = if nat_lt (length d.fields) (length words)
+    then timed d (time_of_text (role_text d words roles.Time)) else Err faults.TooFew
 
 abbrev pub event_numbered : List (ℕ × Definition) → List (List ℕ) → Option ℕ → Result Event EventFault
 event_numbered entries words None = Err faults.NoNumber
@@ -90,7 +93,8 @@ pub record AreFields (words : List (List ℕ)) (d : Definition) (f : Fields) : T
 
 -- the fields of the event that the line tells, or why it tells none
 abbrev pub Tells : List (List ℕ) → Result Fields EventFault → Result Event EventFault → Type 0
-Tells words r wanted = MatchResult r (λ f. (e : Event) × (wanted ≡ Ok e) × (f.time ≡ e.time) × AreFields words e.definition f) (λ fault. wanted ≡ Err fault)
+Tells words r wanted = MatchResult r (λ f. (e : Event) × (wanted ≡ Ok e) × (f.time ≡ e.time)
+    × AreFields words e.definition f) (λ fault. wanted ≡ Err fault)
 
 -- a role has a text exactly where the definition has a field of it
 abbrev pub RolesStand : Definition → Fields → Type 0

@@ -27,7 +27,10 @@ field_text fields.Size = codes "Size"
 field_text fields.Other = []
 
 abbrev pub all_fields : List FieldName
-all_fields = fields.Time ∷ fields.Alias ∷ fields.Type ∷ fields.ContainerType ∷ fields.Name ∷ fields.Container ∷ fields.Value ∷ fields.Key ∷ fields.StartContainerType ∷ fields.SourceContainerType ∷ fields.EndContainerType ∷ fields.DestContainerType ∷ fields.StartContainer ∷ fields.SourceContainer ∷ fields.EndContainer ∷ fields.DestContainer ∷ fields.Size ∷ []
+all_fields = fields.Time ∷ fields.Alias ∷ fields.Type ∷ fields.ContainerType ∷ fields.Name ∷ fields.Container
+    ∷ fields.Value ∷ fields.Key ∷ fields.StartContainerType ∷ fields.SourceContainerType
+    ∷ fields.EndContainerType ∷ fields.DestContainerType ∷ fields.StartContainer ∷ fields.SourceContainer
+    ∷ fields.EndContainer ∷ fields.DestContainer ∷ fields.Size ∷ []
 
 -- the name of a field that has a role
 abbrev pub known_field : List ℕ → Option FieldName

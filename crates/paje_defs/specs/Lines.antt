@@ -1,5 +1,7 @@
--- What the definition lines of a trace make known: facts of the list of its lines, each found in the whole list.
-use Rattle.std.specs.Prelude.{ℕ, ◌||◌, List, [], ◌∷◌, ◌++◌, codes, filter, filter_map, slice_get, nat_eq, Bool, false, Option, Some, None, is_some, is_none, if◌then◌else◌}
+-- What the definition lines of a trace make known: facts of the list of its lines, each found in the whole
+-- list.
+use Rattle.std.specs.Prelude.{ℕ, ◌||◌, List, [], ◌∷◌, ◌++◌, codes, filter, filter_map, slice_get, nat_eq}
+use Rattle.std.specs.Prelude.{Bool, false, Option, Some, None, is_some, is_none, if◌then◌else◌}
 use Rattle.std.specs.List.{after_last, find, last_or}
 use Rattle.std.specs.Map.{lookup}
 use Rattle.std.specs.Option.{option_and_then, option_map, option_map_or, option_zip}
@@ -12,7 +14,8 @@ use Rattle.paje_defs.specs.declared.field.Field.{Field}
 use Rattle.paje_defs.specs.declared.definition.Definition.{Definition}
 use Rattle.paje_defs.specs.declared.begun.Begun.{Begun}
 use Rattle.paje_defs.specs.declared.def_fault.DefFault.{DefFault}
-use Rattle.paje_defs.specs.declared.def_fault.DefFault.TheVariants.{Shape, Nested, UnknownName, DoubleNumber, UnknownType, MissingField}
+use Rattle.paje_defs.specs.declared.def_fault.DefFault.TheVariants.{Shape, Nested, UnknownName, DoubleNumber}
+use Rattle.paje_defs.specs.declared.def_fault.DefFault.TheVariants.{UnknownType, MissingField}
 use Rattle.paje_defs.specs.EventName.{event_name_of}
 use Rattle.paje_defs.specs.FieldName.{field_name_of}
 use Rattle.paje_defs.specs.FieldType.{type_of}
@@ -62,13 +65,21 @@ borders line = begins line.words || ends line.words
 -- a definition of the number and the event of a line, with these fields
 abbrev pub defined_by : List Field → Line → Option Begun
 defined_by fields line =
-    option_map (λ both. record { number = both.0; definition = record { line = line.number; event = both.1; fields = fields } })
+    option_map (λ both. record {
+      number = both.0;
+      definition = record {
+        line = line.number;
+        event = both.1;
+        fields = fields;
+      };
+    })
     (option_zip (defined_number line.words) (defined_event line.words))
 
 abbrev pub begun_by : List Field → Line → Option Begun
 begun_by fields line = if begins line.words then defined_by fields line else None
 
--- that of the last line that begins or ends one, if it begins one; its fields are those of the lines behind it, in order
+-- that of the last line that begins or ends one, if it begins one; its fields are those of the lines behind
+-- it, in order
 abbrev pub begun_in : List Line → Option Begun
 begun_in lines =
     option_and_then (begun_by (filter_map (λ line. field_of line.words) (after_last borders lines)))
@@ -83,7 +94,8 @@ pub record Placed : Type 0 where
 
 abbrev pub placed_behind : List Line → List Line → List Placed
 placed_behind before [] = []
-placed_behind before (line ∷ lines) = record { before = before; line = line } ∷ placed_behind (before ++ line ∷ []) lines
+placed_behind before (line ∷ lines) = record { before = before; line = line }
+    ∷ placed_behind (before ++ line ∷ []) lines
 
 abbrev pub placed : List Line → List Placed
 placed lines = placed_behind [] lines
@@ -123,7 +135,8 @@ begin_reason complete begun words = first_of (
     when (is_none (defined_number words)) Shape
     ∷ when (is_some begun) Nested
     ∷ when (is_none (defined_event words)) UnknownName
-    ∷ option_map (λ first. DoubleNumber first) (option_and_then (first_line complete) (defined_number words)) ∷ [])
+    ∷ option_map (λ first. DoubleNumber first) (option_and_then (first_line complete) (defined_number words))
+    ∷ [])
 
 abbrev pub field_reason : Option Begun → List (List ℕ) → Option DefFault
 field_reason begun words = first_of (
@@ -134,7 +147,8 @@ field_reason begun words = first_of (
 abbrev pub end_reason : Option Begun → Option DefFault
 end_reason begun = first_of (
     when (is_none begun) Shape
-    ∷ option_map (λ role. MissingField role) (option_and_then (λ b. missing b.definition.event b.definition.fields) begun) ∷ [])
+    ∷ option_map (λ role. MissingField role)
+    (option_and_then (λ b. missing b.definition.event b.definition.fields) begun) ∷ [])
 
 -- by which definitions are complete, and which is begun
 abbrev pub reason : List (ℕ × Definition) → Option Begun → List (List ℕ) → Option DefFault
@@ -167,4 +181,8 @@ pub record Definitions : Type 0 where
 
 -- A refused line adds nothing, nor does any behind it.
 abbrev pub definitions_of_lines : List Line → Definitions
-definitions_of_lines lines = record { complete = complete_in (taken lines); begun = begun_in (taken lines); fault = refusal lines }
+definitions_of_lines lines = record {
+  complete = complete_in (taken lines);
+  begun = begun_in (taken lines);
+  fault = refusal lines;
+}

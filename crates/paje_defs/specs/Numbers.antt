@@ -1,12 +1,14 @@
 -- The numbers that stand in the lines of a trace.
-use Rattle.std.specs.Prelude.{ℕ, ◌^◌, ◌&&◌, ◌==◌, List, [], ◌∷◌, length, Option, Some, None, unwrap_or, if◌then◌else◌, nat_lt, nat_le}
+use Rattle.std.specs.Prelude.{ℕ, ◌^◌, ◌&&◌, ◌==◌, List, [], ◌∷◌, length, Option, Some, None, unwrap_or}
+use Rattle.std.specs.Prelude.{if◌then◌else◌, nat_lt, nat_le}
 use Rattle.std.specs.List.{list_all}
 use Rattle.std.specs.Char.{is_ascii_digit}
 use Rattle.paje_lex.specs.DateGrammar.{number}
 
 -- the number of a text of decimal digits, one of them at least and no more than most
 abbrev pub decimal_of : ℕ → List ℕ → Option ℕ
-decimal_of most text = if (list_all is_ascii_digit text && (nat_lt 0 (length text) && nat_le (length text) most)) then Some (number text) else None
+decimal_of most text = if (list_all is_ascii_digit text
+    && (nat_lt 0 (length text) && nat_le (length text) most)) then Some (number text) else None
 
 abbrev pub below : ℕ → Option ℕ → Option ℕ
 below limit None = None

@@ -1,5 +1,6 @@
 -- Lines as their bytes, for the worked rows.
-use Rattle.std.specs.Prelude.{ℕ, ◌+◌, List, [], ◌∷◌, length, drop, filter, map, codes, nat_lt, Option, Ok, Err, Result}
+use Rattle.std.specs.Prelude.{ℕ, ◌+◌, List, [], ◌∷◌, length, drop, filter, map, codes, nat_lt, Option, Ok}
+use Rattle.std.specs.Prelude.{Err, Result}
 use Rattle.std.specs.List.{slice_split}
 use Rattle.std.specs.Option.{option_map}
 use Rattle.paje_lex.specs.LineKinds.{is_blank, tokens_start}
@@ -39,15 +40,21 @@ abbrev pub field_as : FieldName → FieldType → Field
 field_as name kind = record { name = name; kind = kind }
 
 -- what an event line tells of its time, its size and some roles, under the definitions of these lines
-abbrev pub seen_of : List Role → List (List ℕ) → Result Event EventFault → Result (ℕ × ℕ × List (Option (List ℕ))) EventFault
+abbrev pub seen_of : List Role → List (List ℕ) → Result Event EventFault
+    → Result (ℕ × ℕ × List (Option (List ℕ))) EventFault
 seen_of roles words (Err f) = Err f
-seen_of roles words (Ok e) = Ok (e.time, message_size e.definition.event (size_in e.definition words), map (role_text e.definition words) roles)
+seen_of roles words (Ok e) = Ok (
+  e.time,
+  message_size e.definition.event (size_in e.definition words),
+  map (role_text e.definition words) roles,
+)
 
 abbrev pub told_of : List (List ℕ) → List Role → List ℕ → Result (ℕ × ℕ × List (Option (List ℕ))) EventFault
-told_of lines roles line = seen_of roles (words_in line) (event_of (definitions_in lines).complete (words_in line))
+told_of lines roles line = seen_of roles (words_in line)
+    (event_of (definitions_in lines).complete (words_in line))
 
--- two definitions of links in different orders, with an additional field; two of destroyed containers, one without
--- their name; and one of state types, which has no time
+-- two definitions of links in different orders, with an additional field; two of destroyed containers, one
+-- without their name; and one of state types, which has no time
 abbrev pub event_definitions : List (List ℕ)
 event_definitions =
     codes "%EventDef PajeStartLink 7" ∷ codes "% Time string" ∷ codes "% Kind hex" ∷

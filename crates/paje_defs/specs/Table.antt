@@ -1,5 +1,6 @@
 -- What a table of definitions tells, and what a line does to it.
-use Rattle.std.specs.Prelude.{◌≡◌, ℕ, ◌⊎◌, List, [], ◌∷◌, ◌++◌, nat_eq, Option, Some, None, Result, MatchResult, if◌then◌else◌}
+use Rattle.std.specs.Prelude.{◌≡◌, ℕ, ◌⊎◌, List, [], ◌∷◌, ◌++◌, nat_eq, Option, Some, None, Result}
+use Rattle.std.specs.Prelude.{MatchResult, if◌then◌else◌}
 use Rattle.std.specs.Option.{option_map, option_to_list}
 use Rattle.indexmap.specs.IndexMap.{insert_entry}
 use Rattle.paje_defs.specs.declared.field.Field.{Field}
@@ -8,7 +9,8 @@ use Rattle.paje_defs.specs.declared.begun.Begun.{Begun}
 use Rattle.paje_defs.specs.declared.table.DefTable.{DefTable}
 use Rattle.paje_defs.specs.declared.def_fault.DefFault.{DefFault}
 use Rattle.paje_defs.specs.declared.def_fault.DefFault.TheVariants.{Memory}
-use Rattle.paje_defs.specs.Lines.{Definitions, Line, begins, defined_by, definitions_of_lines, ends, field_of, refusal}
+use Rattle.paje_defs.specs.Lines.{Definitions, Line, begins, defined_by, definitions_of_lines, ends, field_of}
+use Rattle.paje_defs.specs.Lines.{refusal}
 
 abbrev pub line_of : ℕ → List (List ℕ) → Line
 line_of n words = record { number = n; words = words }
@@ -16,8 +18,8 @@ line_of n words = record { number = n; words = words }
 abbrev pub definitions_of : DefTable → Definitions
 definitions_of t = record { complete = t.complete.entries; begun = t.begun; fault = t.fault }
 
--- A table of the lines before has taken one more, or tells the first refusal among them. Where memory ran out it is as
--- before, and no line is refused.
+-- A table of the lines before has taken one more, or tells the first refusal among them. Where memory ran out
+-- it is as before, and no line is refused.
 abbrev pub TakesNext : {U : Type 0} → List Line → Line → Definitions → Result U DefFault → Type 0
 TakesNext before line new r = MatchResult r
     (λ _. (new ≡ definitions_of_lines (before ++ line ∷ [])) × (new.fault ≡ None))
@@ -26,7 +28,8 @@ TakesNext before line new r = MatchResult r
 
 -- ---- what its private calls do
 
--- Where there is no reason against it, a step gives what is wanted, or memory ran out. A refusal changes nothing.
+-- Where there is no reason against it, a step gives what is wanted, or memory ran out. A refusal changes
+-- nothing.
 abbrev pub Steps : {U S : Type 0} → S → S → Result U DefFault → Option DefFault → S → Type 0
 Steps old new r why wanted = MatchResult r
     (λ _. (why ≡ None) × (new ≡ wanted))
@@ -35,14 +38,23 @@ Steps old new r why wanted = MatchResult r
 abbrev pub grown : List Field → Begun → Begun
 grown more b = record {
   number = b.number;
-  definition = record { line = b.definition.line; event = b.definition.event; fields = b.definition.fields ++ more };
+  definition = record {
+    line = b.definition.line;
+    event = b.definition.event;
+    fields = b.definition.fields
+        ++ more;
+  };
 }
 
 abbrev pub after_begin : Definitions → Line → Definitions
 after_begin d line = record { complete = d.complete; begun = defined_by [] line; fault = d.fault }
 
 abbrev pub after_field : Definitions → List (List ℕ) → Definitions
-after_field d words = record { complete = d.complete; begun = option_map (grown (option_to_list (field_of words))) d.begun; fault = d.fault }
+after_field d words = record {
+  complete = d.complete;
+  begun = option_map (grown (option_to_list (field_of words))) d.begun;
+  fault = d.fault;
+}
 
 abbrev pub with_ended : List (ℕ × Definition) → Option Begun → List (ℕ × Definition)
 with_ended entries None = entries
@@ -53,4 +65,5 @@ after_end d = record { complete = with_ended d.complete d.begun; begun = None; f
 
 -- what a line that isn't refused makes of them
 abbrev pub after : Definitions → Line → Definitions
-after d line = if begins line.words then after_begin d line else (if ends line.words then after_end d else after_field d line.words)
+after d line = if begins line.words then after_begin d line
+    else (if ends line.words then after_end d else after_field d line.words)

@@ -28,4 +28,5 @@ abbrev pub HasNeeded : EventName → Texts → Type 0
 HasNeeded event t = AllByRecursion (λ role. IsSome (text_of t role)) (needed event)
 
 pub HasNeeded-prop : (event : EventName) (t : Texts) → IsProp (HasNeeded event t)
-HasNeeded-prop event t = AllByRecursion-prop (λ role. IsSome (text_of t role)) (λ role. Bool-set _ _) (needed event)
+HasNeeded-prop event t = AllByRecursion-prop (λ role. IsSome (text_of t role)) (λ role. Bool-set _ _)
+    (needed event)

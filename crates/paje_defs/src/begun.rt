@@ -20,7 +20,8 @@ pub struct Begun {
 impl Begun {
     /// Adds the field of a line.
     pub(crate) fn add(&mut self, words: &Words<'_, '_>) -> Result<(), DefFault>
-        ensures { Steps self.old self.new result (when (is_none (field_type (words_in words.now))) UnknownType)
+        ensures { Steps self.old self.new result
+            (when (is_none (field_type (words_in words.now))) UnknownType)
             (grown (option_to_list (field_of (words_in words.now))) self.old) }
     {
         let Some(kind) = words.field_type() else {

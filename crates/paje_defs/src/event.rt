@@ -3,7 +3,8 @@ ghost use Rattle.std.specs.Option.{option_copied};
 ghost use Rattle.paje_lex.specs.LineGrammar.{StandIn};
 ghost use Rattle.paje_defs.specs.declared.role.Role.{Role};
 ghost use Rattle.paje_defs.specs.Words.{words_in, words_of};
-ghost use Rattle.paje_defs.specs.Events.{Event, RolesStand, Tells, event_of, message_size, role_text, size_in, timed, time_of_text};
+ghost use Rattle.paje_defs.specs.Events.{Event, RolesStand, Tells, event_of, message_size, role_text};
+ghost use Rattle.paje_defs.specs.Events.{size_in, timed, time_of_text};
 ghost use Rattle.paje_defs.specs.Definition.{IsWhole};
 ghost use Rattle.paje_defs.specs.Texts.{text_of};
 ghost use Rattle.paje_defs.specs.Table.{definitions_of};
@@ -128,7 +129,8 @@ impl DefTable {
         definition.read(&words)
     }
 
-    /// The fields of an event line with the tokens that it has, under the definitions so far. It takes no memory.
+    /// The fields of an event line with the tokens that it has, under the definitions so far. It takes no
+    /// memory.
     ///
     /// # Errors
     ///
@@ -138,7 +140,8 @@ impl DefTable {
         ensures exact { Tells (words_of line.now tokens.now) result
             (event_of (definitions_of self.now).complete (words_of line.now tokens.now)) }
         // A role has a text exactly where the definition of the line has a field of it.
-        ensures stand { (event : Event) → event_of (definitions_of self.now).complete (words_of line.now tokens.now) ≡ Ok event
+        ensures stand { (event : Event) → event_of (definitions_of self.now).complete
+            (words_of line.now tokens.now) ≡ Ok event
             → IfOk result (RolesStand event.definition) }
     {
         self.read_event(line, tokens)

@@ -31,8 +31,8 @@ impl<'a> Fields<'a> {
         self.time
     }
 
-    /// The size of a message: 0 where the definition isn't one of a link's start with a `Size` of type int, and where
-    /// that is no number from 0 to 2^63 - 1.
+    /// The size of a message: 0 where the definition isn't one of a link's start with a `Size` of type int,
+    /// and where that is no number from 0 to 2^63 - 1.
     pub fn size(&self) -> u64
         ensures { result ≡ self.now.size }
     {

@@ -25,8 +25,10 @@ pub struct DefTable {
 
 impl DefTable {
     ghost use Rattle.paje_defs.specs.Words.{words_in, words_of};
-    ghost use Rattle.paje_defs.specs.Lines.{Line, begin_reason, definition_of, definitions_of_lines, end_reason, field_reason, first_line, reason};
-    ghost use Rattle.paje_defs.specs.Table.{Steps, TakesNext, after, after_begin, after_end, after_field, definitions_of, line_of};
+    ghost use Rattle.paje_defs.specs.Lines.{Line, begin_reason, definition_of, definitions_of_lines};
+    ghost use Rattle.paje_defs.specs.Lines.{end_reason, field_reason, first_line, reason};
+    ghost use Rattle.paje_defs.specs.Table.{Steps, TakesNext, after, after_begin, after_end, after_field};
+    ghost use Rattle.paje_defs.specs.Table.{definitions_of, line_of};
 
     /// No definitions. It takes no memory.
     #[tactic(auto, unfolding(crate::specs::Definition::AreWhole))]
@@ -66,7 +68,8 @@ impl DefTable {
     /// `%EventDef name number`
     fn begin(&mut self, n: u32, words: &Words<'_, '_>) -> Result<(), DefFault>
         ensures { Steps (definitions_of self.old) (definitions_of self.new) result
-            (begin_reason (definitions_of self.old).complete (definitions_of self.old).begun (words_in words.now))
+            (begin_reason (definitions_of self.old).complete (definitions_of self.old).begun
+            (words_in words.now))
             (after_begin (definitions_of self.old) (line_of n (words_in words.now))) }
     {
         let Some(number) = words.defined_number() else {
@@ -111,7 +114,8 @@ impl DefTable {
 
     /// `%EndEventDef`
     fn end(&mut self) -> Result<(), DefFault>
-        ensures { Steps (definitions_of self.old) (definitions_of self.new) result (end_reason (definitions_of self.old).begun) (after_end (definitions_of self.old)) }
+        ensures { Steps (definitions_of self.old) (definitions_of self.new) result
+            (end_reason (definitions_of self.old).begun) (after_end (definitions_of self.old)) }
     {
         let Some(begun) = self.begun.take() else {
             return Err(DefFault::Shape);
@@ -135,7 +139,8 @@ impl DefTable {
     fn step(&mut self, n: u32, line: &[u8], tokens: &[Token]) -> Result<(), DefFault>
         requires { StandIn (length line.now) tokens.now }
         ensures { Steps (definitions_of self.old) (definitions_of self.new) result
-            (reason (definitions_of self.old).complete (definitions_of self.old).begun (words_of line.now tokens.now))
+            (reason (definitions_of self.old).complete (definitions_of self.old).begun
+            (words_of line.now tokens.now))
             (after (definitions_of self.old) (line_of n (words_of line.now tokens.now))) }
     {
         let words = Words::new(line, tokens);
@@ -150,14 +155,15 @@ impl DefTable {
 
     /// Takes a definition line, the `n`th of its text, with the tokens that it has.
     ///
-    /// `%EventDef name number` begins a definition, `% field type` adds a field to it, and `%EndEventDef` ends it;
-    /// further tokens are dropped. After a refusal other than `Memory` each later call gives the same refusal, and
-    /// the definitions stay as before the refused line. After `Memory` the table is unchanged.
+    /// `%EventDef name number` begins a definition, `% field type` adds a field to it, and `%EndEventDef`
+    /// ends it; further tokens are dropped. After a refusal other than `Memory` each later call gives the
+    /// same refusal, and the definitions stay as before the refused line. After `Memory` the table is
+    /// unchanged.
     ///
     /// # Errors
     ///
-    /// In this order: `Shape`, `Nested`, `UnknownName`, `DoubleNumber` for a begin; `Shape`, `UnknownType` for a
-    /// field; `Shape`, `MissingField` with the first role that is missing for an end. `Memory`.
+    /// In this order: `Shape`, `Nested`, `UnknownName`, `DoubleNumber` for a begin; `Shape`, `UnknownType`
+    /// for a field; `Shape`, `MissingField` with the first role that is missing for an end. `Memory`.
     pub fn line(&mut self, n: u32, line: &[u8], tokens: &[Token]) -> Result<(), DefFault>
         requires { StandIn (length line.now) tokens.now }
         // The table tells what its lines so far make known.

@@ -30,7 +30,8 @@ fn end_text() -> &'static [u8]
 
 impl<'a, 't> Words<'a, 't> {
     ghost use Rattle.paje_defs.specs.Words.{words_in, words_of};
-    ghost use Rattle.paje_defs.specs.Lines.{begins, defined_event, defined_number, ends, field_name, field_type, opens_with};
+    ghost use Rattle.paje_defs.specs.Lines.{begins, defined_event, defined_number, ends, field_name};
+    ghost use Rattle.paje_defs.specs.Lines.{field_type, opens_with};
 
     /// The words of a line, by the tokens that it has.
     pub fn new(line: &'a [u8], tokens: &'t [Token]) -> Words<'a, 't>

@@ -1,5 +1,7 @@
 -- What a date of a trace line is, as a list of parts, and the time that it means.
-use Rattle.std.specs.Prelude.{◌≡◌, ℕ, ◌+◌, ◌-◌, ◌*◌, ◌/◌, ◌^◌, ◌<◌, ◌≤◌, ◌&&◌, ◌==◌, ◌⊎◌, List, [], ◌∷◌, ◌++◌, length, fold, Bool, true, Option, Some, None, Ok, Err, Result, unwrap_or, if◌then◌else◌, nat_lt, slice_index}
+use Rattle.std.specs.Prelude.{◌≡◌, ℕ, ◌+◌, ◌-◌, ◌*◌, ◌/◌, ◌^◌, ◌<◌, ◌≤◌, ◌&&◌, ◌==◌, ◌⊎◌, List, [], ◌∷◌, ◌++◌}
+use Rattle.std.specs.Prelude.{length, fold, Bool, true, Option, Some, None, Ok, Err, Result, unwrap_or}
+use Rattle.std.specs.Prelude.{if◌then◌else◌, nat_lt, slice_index}
 use Rattle.std.specs.List.{AllByRecursion}
 use Rattle.std.specs.Char.{is_ascii_digit}
 use Rattle.paje_lex.specs.declared.date_fault.DateFault.{DateFault}
@@ -99,4 +101,5 @@ within_limit above below = if nat_lt (2 ^ 62 * below) above then Err Big else Ok
 
 -- A date below 0 is refused, whatever it is rounded to; -0 is 0.
 abbrev pub meaning : Date → Result ℕ DateFault
-meaning d = if (is_minus d.sign && nat_lt 0 (number (digits_of d))) then Err Negative else within_limit (numerator d) (denominator d)
+meaning d = if (is_minus d.sign && nat_lt 0 (number (digits_of d))) then Err Negative
+    else within_limit (numerator d) (denominator d)

@@ -1,5 +1,6 @@
 -- Which date a text is, as a function that computes.
-use Rattle.std.specs.Prelude.{ℕ, ◌&&◌, ◌||◌, ◌==◌, List, [], ◌∷◌, ◌++◌, length, take, drop, Bool, Option, Some, None, Err, Result, unwrap_or, if◌then◌else◌, nat_lt, nat_le}
+use Rattle.std.specs.Prelude.{ℕ, ◌&&◌, ◌||◌, ◌==◌, List, [], ◌∷◌, ◌++◌, length, take, drop, Bool, Option}
+use Rattle.std.specs.Prelude.{Some, None, Err, Result, unwrap_or, if◌then◌else◌, nat_lt, nat_le}
 use Rattle.std.specs.List.{take_while, prefix_len, list_all}
 use Rattle.std.specs.Option.{option_map}
 use Rattle.std.specs.Char.{is_ascii_digit}
@@ -29,7 +30,8 @@ abbrev pub places_at : List ℕ → ℕ
 places_at body = length (unwrap_or (fraction_at body) [])
 
 abbrev pub are_exponent_digits : List ℕ → Bool
-are_exponent_digits bs = list_all is_ascii_digit bs && (nat_lt 0 (length bs) && (nat_le (length bs) 4 && nat_le (number bs) 30))
+are_exponent_digits bs = list_all is_ascii_digit bs
+    && (nat_lt 0 (length bs) && (nat_le (length bs) 4 && nat_le (number bs) 30))
 
 abbrev pub is_exponent_letter : ℕ → Bool
 is_exponent_letter b = b == 101 || b == 69
@@ -47,7 +49,8 @@ exponent_of (b ∷ bs) = if is_exponent_letter b then option_map Some (exponent_
 
 -- the text behind the digits, the point and the digits after it
 abbrev pub behind_digits : List ℕ → List ℕ
-behind_digits body = drop (length (fraction_text (fraction_at body))) (drop (prefix_len is_ascii_digit body) body)
+behind_digits body = drop (length (fraction_text (fraction_at body)))
+    (drop (prefix_len is_ascii_digit body) body)
 
 -- a date without its sign and its exponent
 abbrev pub unsigned_of : List ℕ → List ℕ → Option Exponent → Date
@@ -66,7 +69,8 @@ abbrev pub digits_at : List ℕ → List ℕ
 digits_at body = take_while is_ascii_digit body ++ unwrap_or (fraction_at body) []
 
 abbrev pub date_parts : List ℕ → List ℕ → Option Date
-date_parts sign body = if length (digits_at body) == 0 then None else option_map (unsigned_of sign body) (exponent_of (behind_digits body))
+date_parts sign body = if length (digits_at body) == 0 then None else option_map (unsigned_of sign body)
+    (exponent_of (behind_digits body))
 
 -- the parts of the text, where it is a date
 unfoldable pub parts_of : List ℕ → Option Date

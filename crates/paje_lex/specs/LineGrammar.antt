@@ -1,5 +1,6 @@
 -- The tokens of a line by its grammar: a line is cut into blanks, quoted tokens and plain ones.
-use Rattle.std.specs.Prelude.{◌≡◌, ◌≤◌, All, ℕ, ◌+◌, ◌==◌, List, [], ◌∷◌, ◌++◌, length, drop, false, IsTrue, Ok, Err, Result, IsUtf8}
+use Rattle.std.specs.Prelude.{◌≡◌, ◌≤◌, All, ℕ, ◌+◌, ◌==◌, List, [], ◌∷◌, ◌++◌, length, drop, false, IsTrue}
+use Rattle.std.specs.Prelude.{Ok, Err, Result, IsUtf8}
 use Rattle.std.specs.List.{AllByRecursion}
 use Rattle.std.specs.Str.Lossy.{utf8_valid_len}
 use Rattle.paje_lex.specs.declared.token.Token.{Token}
@@ -66,7 +67,8 @@ ArePieces (p ∷ ps) = IsPiece p × MayFollow p ps × ArePieces ps
 abbrev pub tokens_from : ℕ → List Piece → List Token
 tokens_from at [] = []
 tokens_from at (blank b ∷ ps) = tokens_from (at + 1) ps
-tokens_from at (quoted bytes ∷ ps) = token (at + 1) (at + 1 + length bytes) ∷ tokens_from (at + 1 + length bytes + 1) ps
+tokens_from at (quoted bytes ∷ ps) = token (at + 1) (at + 1 + length bytes)
+    ∷ tokens_from (at + 1 + length bytes + 1) ps
 tokens_from at (plain bytes ∷ ps) = token at (at + length bytes) ∷ tokens_from (at + length bytes) ps
 
 -- ---- what a line has
@@ -87,9 +89,11 @@ body_of_line line = drop (tokens_start line) line
 
 -- A line has these tokens, or this is wrong with it. Nothing wrong with a line is want of memory.
 abbrev pub Lexes : List ℕ → Answer → Type 0
-Lexes line (Ok tokens) = IsUtf8 line × (ps : List Piece) × IsCut (body_of_line line) ps × (tokens ≡ tokens_from (tokens_start line) ps)
+Lexes line (Ok tokens) = IsUtf8 line × (ps : List Piece) × IsCut (body_of_line line) ps
+    × (tokens ≡ tokens_from (tokens_start line) ps)
 Lexes line (Err (NotText at)) = ¬ (IsUtf8 line) × (at ≡ utf8_valid_len line)
-Lexes line (Err (OpenQuote at)) = IsUtf8 line × (ps : List Piece) × (rest : List ℕ) × IsOpen (body_of_line line) ps rest × (at ≡ tokens_start line + length (pieces_text ps))
+Lexes line (Err (OpenQuote at)) = IsUtf8 line × (ps : List Piece) × (rest : List ℕ)
+    × IsOpen (body_of_line line) ps rest × (at ≡ tokens_start line + length (pieces_text ps))
 Lexes line (Err Memory) = ⊥
 
 -- what a call gave, where it isn't want of memory

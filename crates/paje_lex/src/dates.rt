@@ -1,6 +1,9 @@
-ghost use Rattle.std.specs.Prelude.{◌≡◌, ℕ, ◌+◌, ◌*◌, ◌/◌, ◌^◌, ◌<◌, ◌≤◌, ◌==◌, ◌↔◌, ◌⊎◌, ◌++◌, length, drop, take, IsTrue, IfOk, IfSome, Option, Some, None, Err, if◌then◌else◌};
-ghost use Rattle.paje_lex.specs.DateGrammar.{Date, IsDate, date_text, is_minus, tens_of, number, meaning, numerator, denominator};
-ghost use Rattle.paje_lex.specs.DateReading.{date_of, sign_len, exponent_of, exponent_behind, are_exponent_digits, digits_at, places_at, behind_digits};
+ghost use Rattle.std.specs.Prelude.{◌≡◌, ℕ, ◌+◌, ◌*◌, ◌/◌, ◌^◌, ◌<◌, ◌≤◌, ◌==◌, ◌↔◌, ◌⊎◌, ◌++◌, length, drop};
+ghost use Rattle.std.specs.Prelude.{take, IsTrue, IfOk, IfSome, Option, Some, None, Err, if◌then◌else◌};
+ghost use Rattle.paje_lex.specs.DateGrammar.{Date, IsDate, date_text, is_minus, tens_of, number, meaning};
+ghost use Rattle.paje_lex.specs.DateGrammar.{numerator, denominator};
+ghost use Rattle.paje_lex.specs.DateReading.{date_of, sign_len, exponent_of, exponent_behind};
+ghost use Rattle.paje_lex.specs.DateReading.{are_exponent_digits, digits_at, places_at, behind_digits};
 ghost use Rattle.paje_lex.specs.DigitsSpec.{Holds};
 ghost use Rattle.std.specs.Option.{option_map};
 

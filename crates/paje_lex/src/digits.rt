@@ -1,4 +1,5 @@
-ghost use Rattle.std.specs.Prelude.{◌≡◌, ℕ, ◌+◌, ◌-◌, ◌*◌, ◌/◌, ◌^◌, ◌<◌, ◌≤◌, ◌↔◌, ◌==◌, List, [], ◌∷◌, ◌++◌, length, take, IsTrue, IfOk, IfErr, MatchOption, ◌⊎◌, true, false};
+ghost use Rattle.std.specs.Prelude.{◌≡◌, ℕ, ◌+◌, ◌-◌, ◌*◌, ◌/◌, ◌^◌, ◌<◌, ◌≤◌, ◌↔◌, ◌==◌, List, [], ◌∷◌};
+ghost use Rattle.std.specs.Prelude.{◌++◌, length, take, IsTrue, IfOk, IfErr, MatchOption, ◌⊎◌, true, false};
 ghost use Rattle.std.specs.List.{prefix_len};
 ghost use Rattle.std.specs.Char.{is_ascii_digit};
 ghost use Rattle.paje_lex.specs.DateGrammar.{number, within_limit};
@@ -69,7 +70,8 @@ impl Digits {
         requires { self.more + length text.now < 2 ^ 64 }
         ensures len { result.1 ≡ prefix_len is_ascii_digit text.now }
         ensures within { result.1 ≤ length text.now }
-        ensures number { (digits : List ℕ) → Holds self digits → Holds result.0 (digits ++ take result.1 text.now) }
+        ensures number { (digits : List ℕ) → Holds self digits
+            → Holds result.0 (digits ++ take result.1 text.now) }
         ensures more { result.0.more ≤ self.more + result.1 }
     {
         let mut digits = self;
@@ -86,7 +88,8 @@ impl Digits {
     /// the point dropped, unless the exact value is above the greatest time.
     pub fn scaled(self, up: usize, down: usize) -> Result<u64, DateFault>
         requires { self.more + up < 2 ^ 64 }
-        ensures { (digits : List ℕ) → Holds self digits → result ≡ within_limit (number digits * 10 ^ up) (10 ^ down) }
+        ensures { (digits : List ℕ) → Holds self digits → result ≡ within_limit (number digits * 10 ^ up)
+            (10 ^ down) }
     {
         if self.more + up < down {
             return Ok(lowered(self.head, down - (self.more + up)));
@@ -101,7 +104,8 @@ impl Digits {
 /// A time with something behind it or not, unless both are above the greatest time.
 fn capped(time: u64, tail: bool) -> Result<u64, DateFault>
     ensures ok { IfOk result (λ t. (t ≡ time) × ((time < 2 ^ 62) ⊎ ((time ≡ 2 ^ 62) × (tail ≡ false)))) }
-    ensures err { IfErr result (λ e. (e ≡ DateFault.Big) × ((2 ^ 62 < time) ⊎ ((time ≡ 2 ^ 62) × (tail ≡ true)))) }
+    ensures err { IfErr result (λ e. (e ≡ DateFault.Big)
+        × ((2 ^ 62 < time) ⊎ ((time ≡ 2 ^ 62) × (tail ≡ true)))) }
 {
     if time < MAX_TIME {
         return Ok(time);

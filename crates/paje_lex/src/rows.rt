@@ -13,8 +13,10 @@ use crate::lex_fault::LexFault;
 pub fn date_rows()
     ensures values { map date_of (codes "1e-05" ∷ codes "0.0000000019" ∷ codes ".5" ∷ codes "5."
         ∷ codes "-0.0" ∷ codes "+2" ∷ codes "4611686018.427387904" ∷ codes "0e30" ∷ [])
-        ≡ Ok 10000 ∷ Ok 1 ∷ Ok 500000000 ∷ Ok 5000000000 ∷ Ok 0 ∷ Ok 2000000000 ∷ Ok 4611686018427387904 ∷ Ok 0 ∷ [] }
-    ensures big { map date_of (codes "4611686018.4273879040000000001" ∷ codes "4611686018.427387905" ∷ codes "1e30" ∷ [])
+        ≡ Ok 10000 ∷ Ok 1 ∷ Ok 500000000 ∷ Ok 5000000000 ∷ Ok 0 ∷ Ok 2000000000 ∷ Ok 4611686018427387904
+        ∷ Ok 0 ∷ [] }
+    ensures big { map date_of (codes "4611686018.4273879040000000001" ∷ codes "4611686018.427387905"
+        ∷ codes "1e30" ∷ [])
         ≡ replicate 3 (Err DateFault.Big) }
     ensures negative { map date_of (codes "-1" ∷ codes "-1e-30" ∷ [])
         ≡ replicate 2 (Err DateFault.Negative) }
@@ -48,6 +50,7 @@ pub fn token_rows()
 pub fn line_rows()
     ensures skipped { map is_skipped_line ([] ∷ codes " \t" ∷ codes "\t# a" ∷ codes "a #" ∷ codes "%" ∷ [])
         ≡ true ∷ true ∷ true ∷ false ∷ false ∷ [] }
-    ensures definitions { map is_definition_line ([] ∷ codes " \t" ∷ codes " \t%a" ∷ codes "a %" ∷ codes "# %" ∷ [])
+    ensures definitions { map is_definition_line ([] ∷ codes " \t" ∷ codes " \t%a" ∷ codes "a %" ∷ codes "# %"
+        ∷ [])
         ≡ false ∷ false ∷ true ∷ false ∷ false ∷ [] }
 {}

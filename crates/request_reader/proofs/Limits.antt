@@ -1,5 +1,6 @@
 -- The limits of the numbers in a request line.
-use Rattle.std.proofs.Common.{◌≡◌, refl, ℕ, ◌<◌, ◌≤◌, ◌^◌, Bool, true, false, ◌&&◌, nat_le, nat_lt, if◌then◌else◌, List, [], ◌∷◌, length, Option, None, Some, arith}
+use Rattle.std.proofs.Common.{◌≡◌, refl, ℕ, ◌<◌, ◌≤◌, ◌^◌, Bool, true, false, ◌&&◌, nat_le, nat_lt}
+use Rattle.std.proofs.Common.{if◌then◌else◌, List, [], ◌∷◌, length, Option, None, Some, arith}
 use Rattle.std.specs.Prelude.{codes}
 use Rattle.std.specs.Str.{bytes_eq}
 use Rattle.std.proofs.lemmas.Bool.Decides.{nat_tests}
@@ -28,7 +29,8 @@ limited_put (Some len) = at (nat_le len 65536) refl where
 
 limited_flat : (id a b : Option ℕ) → IsLimited (flat_of id a b)
 limited_flat (Some id) (Some a) (Some b) = at (nat_lt a b) (nat_le b (2 ^ 62)) refl refl where
-  at : (t u : Bool) → nat_lt a b ≡ t → nat_le b (2 ^ 62) ≡ u → IsLimited (if t && u then Some (line.Flat id All a b) else None)
+  at : (t u : Bool) → nat_lt a b ≡ t → nat_le b (2 ^ 62) ≡ u
+      → IsLimited (if t && u then Some (line.Flat id All a b) else None)
   at true true e f = (grind (arith, nat_tests), grind (arith, nat_tests))
   at true false e f = tt
   at false true e f = tt
@@ -40,18 +42,23 @@ limited_flat None a b = tt
 limited_words : (words : List (List ℕ)) → IsLimited (request_of_words words)
 limited_words [] = tt
 limited_words (verb ∷ []) = limited_if (bytes_eq verb (codes "QUIT")) (Some line.Quit) tt
-limited_words (verb ∷ len ∷ []) = limited_if (bytes_eq verb (codes "PUT")) (put_of (number_of len)) (limited_put (number_of len))
+limited_words (verb ∷ len ∷ []) = limited_if (bytes_eq verb (codes "PUT")) (put_of (number_of len))
+    (limited_put (number_of len))
 limited_words (verb ∷ id ∷ sel ∷ []) = tt
 limited_words (verb ∷ id ∷ sel ∷ a ∷ []) = tt
 limited_words (verb ∷ id ∷ sel ∷ a ∷ b ∷ []) =
-    limited_if (bytes_eq verb (codes "FLAT") && bytes_eq sel (codes "*")) (flat_of (number_of id) (number_of a) (number_of b)) (limited_flat (number_of id) (number_of a) (number_of b))
+    limited_if (bytes_eq verb (codes "FLAT") && bytes_eq sel (codes "*"))
+    (flat_of (number_of id) (number_of a) (number_of b))
+    (limited_flat (number_of id) (number_of a) (number_of b))
 limited_words (verb ∷ id ∷ sel ∷ a ∷ b ∷ more ∷ words) = tt
 
 pub request_of-limited : (bytes : List ℕ) → IsLimited (request_of bytes)
 unfolding request_of
-request_of-limited bytes = limited_if (nat_le (length bytes) 4096) (request_of_words (words_of bytes)) (limited_words (words_of bytes))
+request_of-limited bytes = limited_if (nat_le (length bytes) 4096) (request_of_words (words_of bytes))
+    (limited_words (words_of bytes))
 
 -- a longer line is none
 pub request_of-long : (bytes : List ℕ) → 4096 < length bytes → request_of bytes ≡ None
 unfolding request_of
-request_of-long bytes long = let no : nat_le (length bytes) 4096 ≡ false = grind (arith, nat_tests) in rw no refl
+request_of-long bytes long = let no : nat_le (length bytes) 4096 ≡ false = grind (arith, nat_tests)
+    in rw no refl

@@ -1,5 +1,6 @@
 -- What the bytes of a line, and of a text behind it, spell.
-use Rattle.std.proofs.Common.{◌≡◌, refl, ap, ◌∙◌, ℕ, suc, ◌+◌, ◌<◌, true, false, nat_le, List, [], ◌∷◌, ◌++◌, length, drop, append_assoc, Option, None, Some, arith, length-append}
+use Rattle.std.proofs.Common.{◌≡◌, refl, ap, ◌∙◌, ℕ, suc, ◌+◌, ◌<◌, true, false, nat_le, List, [], ◌∷◌, ◌++◌}
+use Rattle.std.proofs.Common.{length, drop, append_assoc, Option, None, Some, arith, length-append}
 use Rattle.std.proofs.lemmas.List.{take_at, drop_at}
 use Rattle.std.proofs.lemmas.Bool.Decides.{nat_tests}
 use Rattle.session_proto.specs.Request.{request_of}
@@ -18,48 +19,59 @@ drop_newline (b ∷ bs) more = rw (e) (drop_newline bs more) where
   e = omega arith
 
 -- the first request begins with the first line
-pub first_request-line : (bytes more : List ℕ) → HasNoNewline bytes → first_request (bytes ++ 10 ∷ more) ≡ with_text (request_of bytes) more
+pub first_request-line : (bytes more : List ℕ) → HasNoNewline bytes
+    → first_request (bytes ++ 10 ∷ more) ≡ with_text (request_of bytes) more
 unfolding first_request
 first_request-line bytes more none =
     ap (λ o. front_at (bytes ++ 10 ∷ more) o) (line_end-append bytes more none)
-    ∙ ap (λ l. with_text (request_of l) (drop (length bytes + 1) (bytes ++ 10 ∷ more))) (take_at bytes (10 ∷ more) (length bytes) refl)
+    ∙ ap (λ l. with_text (request_of l) (drop (length bytes + 1) (bytes ++ 10 ∷ more)))
+    (take_at bytes (10 ∷ more) (length bytes) refl)
     ∙ ap (λ l. with_text (request_of bytes) l) (drop_newline bytes more)
 
 -- the same, with the newline at the end of what was taken
-line_behind : (bytes more : List ℕ) (q : Option Request) → HasNoNewline bytes → request_of bytes ≡ q → first_request ((bytes ++ 10 ∷ []) ++ more) ≡ with_text q more
+line_behind : (bytes more : List ℕ) (q : Option Request) → HasNoNewline bytes → request_of bytes ≡ q
+    → first_request ((bytes ++ 10 ∷ []) ++ more) ≡ with_text q more
 line_behind bytes more q none is =
-    ap (λ l. first_request l) (append_assoc bytes (10 ∷ []) more) ∙ first_request-line bytes more none ∙ ap (λ o. with_text o more) is
+    ap (λ l. first_request l) (append_assoc bytes (10 ∷ []) more) ∙ first_request-line bytes more none ∙ ap
+    (λ o. with_text o more) is
 
 -- bytes without a newline have no whole request
 pub first_request-cut : (bytes : List ℕ) → HasNoNewline bytes → first_request bytes ≡ None
 unfolding first_request
 first_request-cut bytes none = ap (λ o. front_at bytes o) none
 
-pub spells-quit : (bytes taken : List ℕ) → HasNoNewline bytes → request_of bytes ≡ Some line.Quit → taken ≡ bytes ++ 10 ∷ [] → Spells taken Quit
+pub spells-quit : (bytes taken : List ℕ) → HasNoNewline bytes → request_of bytes ≡ Some line.Quit
+    → taken ≡ bytes ++ 10 ∷ [] → Spells taken Quit
 spells-quit bytes taken none is eq = λ more. rw eq (line_behind bytes more (Some line.Quit) none is)
 
-pub spells-unreadable : (bytes taken : List ℕ) → HasNoNewline bytes → request_of bytes ≡ None → taken ≡ bytes ++ 10 ∷ [] → Spells taken Unreadable
+pub spells-unreadable : (bytes taken : List ℕ) → HasNoNewline bytes → request_of bytes ≡ None → taken ≡ bytes
+    ++ 10 ∷ [] → Spells taken Unreadable
 spells-unreadable bytes taken none is eq = λ more. rw eq (line_behind bytes more None none is)
 
-pub spells-flat : (bytes taken : List ℕ) (id a b : ℕ) (sel : Sel) → HasNoNewline bytes → request_of bytes ≡ Some (line.Flat id sel a b) →
+pub spells-flat : (bytes taken : List ℕ) (id a b : ℕ) (sel : Sel) → HasNoNewline bytes
+    → request_of bytes ≡ Some (line.Flat id sel a b) →
     taken ≡ bytes ++ 10 ∷ [] → Spells taken (Flat id a b)
-spells-flat bytes taken id a b sel none is eq = λ more. rw eq (line_behind bytes more (Some (line.Flat id sel a b)) none is)
+spells-flat bytes taken id a b sel none is eq =
+    λ more. rw eq (line_behind bytes more (Some (line.Flat id sel a b)) none is)
 
-with_put : (text more : List ℕ) → with_text (Some (line.Put (length text))) (text ++ more) ≡ Some (record { request = Put text; rest = more })
+with_put : (text more : List ℕ) → with_text (Some (line.Put (length text))) (text ++ more) ≡ Some
+    (record { request = Put text; rest = more })
 with_put text more =
     let len = length-append text more in
     let fits : nat_le (length text) (length (text ++ more)) ≡ true = grind (arith, nat_tests) in
     rw (fits, take_at text more (length text) refl, drop_at text more (length text) refl) refl
 
 -- a PUT and its bytes
-pub spells-put : (bytes taken text : List ℕ) → HasNoNewline bytes → request_of bytes ≡ Some (line.Put (length text)) →
+pub spells-put : (bytes taken text : List ℕ) → HasNoNewline bytes
+    → request_of bytes ≡ Some (line.Put (length text)) →
     taken ≡ bytes ++ 10 ∷ [] → Spells (taken ++ text) (Put text)
 spells-put bytes taken text none is eq = λ more.
     rw (eq, append_assoc (bytes ++ 10 ∷ []) text more)
     (line_behind bytes (text ++ more) (Some (line.Put (length text))) none is ∙ with_put text more)
 
 -- a PUT and fewer bytes than it wants
-pub first_request-short : (bytes taken part : List ℕ) (len : ℕ) → HasNoNewline bytes → request_of bytes ≡ Some (line.Put len) →
+pub first_request-short : (bytes taken part : List ℕ) (len : ℕ) → HasNoNewline bytes
+    → request_of bytes ≡ Some (line.Put len) →
     taken ≡ bytes ++ 10 ∷ [] → length part < len → first_request (taken ++ part) ≡ None
 first_request-short bytes taken part len none is eq short =
     let fits : nat_le len (length part) ≡ false = grind (arith, nat_tests) in

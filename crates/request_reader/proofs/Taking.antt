@@ -1,5 +1,6 @@
 -- How the bytes taken by one step after another add up.
-use Rattle.std.proofs.Common.{◌≡◌, refl, ap, ◌∙◌, sym, ℕ, ◌≤◌, List, [], ◌∷◌, ◌++◌, append_assoc, Option, None, Some, arith}
+use Rattle.std.proofs.Common.{◌≡◌, refl, ap, ◌∙◌, sym, ℕ, ◌≤◌, List, [], ◌∷◌, ◌++◌, append_assoc, Option}
+use Rattle.std.proofs.Common.{None, Some, arith}
 use Rattle.trace_base.specs.Outside.{Told, Rose}
 use Rattle.request_reader.specs.Incoming.{Takes}
 use Rattle.request_reader.specs.Skipping.{NothingLeft}
@@ -16,7 +17,8 @@ takes-then P Q R (Some x) None c h k both = absurd h
 takes-then P Q R (Some x) (Some y) None h k both = absurd k
 
 -- a step that takes one byte
-pub takes-byte : (P Q : List ℕ → Type 0) (a b c : Option (List ℕ)) (x : ℕ) → Takes a b P → Told b c (λ was now. was ≡ x ∷ now) →
+pub takes-byte : (P Q : List ℕ → Type 0) (a b c : Option (List ℕ)) (x : ℕ) → Takes a b P
+    → Told b c (λ was now. was ≡ x ∷ now) →
     ((s : List ℕ) → P s → Q (s ++ x ∷ [])) → Takes a c Q
 takes-byte P Q None None None x h k more = tt
 takes-byte P Q (Some u) (Some y) (Some z) x h k more =
@@ -27,7 +29,8 @@ takes-byte P Q (Some u) None c x h k more = absurd h
 takes-byte P Q (Some u) (Some y) None x h k more = absurd k
 
 -- the end of the source takes nothing
-pub takes-end : (P : List ℕ → Type 0) (a b c : Option (List ℕ)) → Takes a b P → Told b c (λ was now. (was ≡ []) × (now ≡ [])) →
+pub takes-end : (P : List ℕ → Type 0) (a b c : Option (List ℕ)) → Takes a b P
+    → Told b c (λ was now. (was ≡ []) × (now ≡ [])) →
     Takes a c P × NothingLeft c
 takes-end P None None None h k = (tt, λ some. absurd (some refl))
 takes-end P (Some u) (Some y) (Some z) h k =
@@ -43,7 +46,8 @@ takes-nothing P None h = tt
 takes-nothing P (Some x) h = ([], refl, h)
 
 -- what is true of the bytes taken
-pub takes-so : (P Q : List ℕ → Type 0) (a b : Option (List ℕ)) → Takes a b P → ((s : List ℕ) → P s → Q s) → Takes a b Q
+pub takes-so : (P Q : List ℕ → Type 0) (a b : Option (List ℕ)) → Takes a b P → ((s : List ℕ) → P s → Q s)
+    → Takes a b Q
 takes-so P Q None None h so = tt
 takes-so P Q (Some x) (Some y) h so = (h.0, h.1, so h.0 h.2)
 takes-so P Q None (Some y) h so = absurd h

@@ -1,5 +1,6 @@
 -- What it means of the bytes that a session was given, and has left to read, that a request comes next.
-use Rattle.std.specs.Prelude.{◌≡◌, ◌≢◌, ℕ, ◌^◌, ◌≤◌, ◌<◌, length, List, [], ◌++◌, Option, None, Some, option_map}
+use Rattle.std.specs.Prelude.{◌≡◌, ◌≢◌, ℕ, ◌^◌, ◌≤◌, ◌<◌, length, List, [], ◌++◌, Option, None, Some}
+use Rattle.std.specs.Prelude.{option_map}
 use Rattle.trace_base.specs.Outside.{Told}
 use Rattle.request_reader.specs.Requests.{WholeRequest, Put, Flat, Quit, Unreadable, first_request}
 use Rattle.request_reader.specs.declared.incoming.Incoming.{Incoming}
@@ -9,7 +10,8 @@ use Rattle.request_reader.specs.declared.incoming.Incoming.TheVariants as incomi
 abbrev pub Spells : List ℕ → WholeRequest → Type 0
 Spells bytes r = (more : List ℕ) → first_request (bytes ++ more) ≡ Some (record { request = r; rest = more })
 
--- what is left to read: the bytes that were given and wait in the buffer, and those of the source, where it tells them
+-- what is left to read: the bytes that were given and wait in the buffer, and those of the source, where it
+-- tells them
 abbrev pub left_to_read : List ℕ → Option (List ℕ) → Option (List ℕ)
 left_to_read pending left = option_map (λ l. pending ++ l) left
 
@@ -25,7 +27,8 @@ Comes old new text (incoming.Flat id a b) = Takes old new (λ taken. Spells take
 Comes old new text incoming.Quit = Takes old new (λ taken. Spells taken Quit)
 Comes old new text incoming.Unreadable = Takes old new (λ taken. Spells taken Unreadable)
 Comes old new text incoming.End = Told old new (λ was now. (was ≡ []) × (now ≡ []))
-Comes old new text incoming.Cut = Takes old new (λ taken. (taken ≢ []) × (first_request taken ≡ None)) × (new ≢ None → new ≡ Some [])
+Comes old new text incoming.Cut = Takes old new (λ taken. (taken ≢ []) × (first_request taken ≡ None))
+    × (new ≢ None → new ≡ Some [])
 Comes old new text incoming.Failed = Takes old new (λ taken. first_request taken ≡ None)
 
 -- whether no byte waits in the buffer then: the source was asked and gave none

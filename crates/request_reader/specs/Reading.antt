@@ -20,7 +20,8 @@ GivesByte old new byte.Failed = new ≡ old
 
 -- the bytes that waited stand behind the text, or the first of them, so many
 abbrev pub Moves : ℕ → List ℕ → List ℕ → List ℕ → List ℕ → Type 0
-Moves most was now text longer = (taken : List ℕ) × (was ≡ taken ++ now) × (longer ≡ text ++ taken) × (length taken ≡ min most (length was))
+Moves most was now text longer = (taken : List ℕ) × (was ≡ taken ++ now) × (longer ≡ text ++ taken)
+    × (length taken ≡ min most (length was))
 
 -- no byte waits where the source gave none
 abbrev pub LeavesNone : NextByte → List ℕ → Type 0

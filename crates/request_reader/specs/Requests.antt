@@ -1,5 +1,6 @@
 -- How the bytes that a session reads are cut into requests.
-use Rattle.std.specs.Prelude.{ℕ, zero, suc, unwrap_or, ◌+◌, ◌==◌, nat_le, if◌then◌else◌, List, [], ◌∷◌, length, take, drop, position, Option, None, Some, option_map}
+use Rattle.std.specs.Prelude.{ℕ, zero, suc, unwrap_or, ◌+◌, ◌==◌, nat_le, if◌then◌else◌, List, [], ◌∷◌}
+use Rattle.std.specs.Prelude.{length, take, drop, position, Option, None, Some, option_map}
 use Rattle.session_proto.specs.Request.{request_of}
 use Rattle.session_proto.specs.declared.request.Request.{Request}
 use Rattle.session_proto.specs.declared.request.Request.TheVariants as line
@@ -22,7 +23,8 @@ with_text None rest = Some (record { request = Unreadable; rest = rest })
 with_text (Some line.Quit) rest = Some (record { request = Quit; rest = rest })
 with_text (Some (line.Flat id sel a b)) rest = Some (record { request = Flat id a b; rest = rest })
 with_text (Some (line.Put len)) rest =
-    if nat_le len (length rest) then Some (record { request = Put (take len rest); rest = drop len rest }) else None
+    if nat_le len (length rest) then Some (record { request = Put (take len rest); rest = drop len rest })
+    else None
 
 -- the place of the first newline
 abbrev pub line_end : List ℕ → Option ℕ
@@ -63,7 +65,9 @@ onto Unreadable behind = record { all = Unreadable ∷ behind.all; ending = behi
 -- the requests, at most n of them
 unfoldable pub requests_within : ℕ → List ℕ → Requests
 requests_within zero bytes = rest_only bytes
-requests_within (suc n) bytes = unwrap_or (option_map (λ (f : Front). onto f.request (requests_within n f.rest)) (first_request bytes)) (rest_only bytes)
+requests_within (suc n) bytes = unwrap_or
+    (option_map (λ (f : Front). onto f.request (requests_within n f.rest)) (first_request bytes))
+    (rest_only bytes)
 
 -- the requests of the bytes; those behind QUIT belong to none
 unfoldable pub requests_of : List ℕ → Requests

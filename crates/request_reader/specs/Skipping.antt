@@ -18,7 +18,8 @@ abbrev pub NothingLeft : Option (List ℕ) → Type 0
 NothingLeft left = left ≢ None → left ≡ Some []
 
 -- the bytes taken are all that were to be skipped, or a part of them
-abbrev pub Skips : (List ℕ → Type 0) → (List ℕ → Type 0) → Option (List ℕ) → Option (List ℕ) → Skipped → Type 0
+abbrev pub Skips : (List ℕ → Type 0) → (List ℕ → Type 0) → Option (List ℕ) → Option (List ℕ) → Skipped
+    → Type 0
 Skips all part old new Whole = Takes old new all
 Skips all part old new Cut = Takes old new part × NothingLeft new
 Skips all part old new Failed = Takes old new part

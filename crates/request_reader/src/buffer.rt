@@ -5,8 +5,8 @@ use crate::pending::Pending;
 use std::alloc::Global;
 use trace_base::Memory;
 
-/// What a session keeps of its source between requests: bytes that were given and wait, the line that is read, and
-/// the text of the last PUT.
+/// What a session keeps of its source between requests: bytes that were given and wait, the line that is
+/// read, and the text of the last PUT.
 #[derive(Debug, Drop)]
 pub struct InputBuf {
     pub pending: Pending,

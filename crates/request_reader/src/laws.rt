@@ -1,10 +1,11 @@
 //! Laws of the definitions. The bodies are empty.
 ghost use Rattle.std.specs.Prelude.{◌≡◌, ◌≢◌, ℕ, List, [], ◌∷◌, ◌++◌, None};
 ghost use Rattle.request_reader.specs.Incoming.{Spells};
-ghost use Rattle.request_reader.specs.Requests.{WholeRequest, Quit, AfterQuit, first_request, requests_of, rest_only, onto};
+ghost use Rattle.request_reader.specs.Requests.{WholeRequest, Quit, AfterQuit, first_request, requests_of};
+ghost use Rattle.request_reader.specs.Requests.{rest_only, onto};
 
-/// Bytes that spell a request, with more behind them: the requests are this one and then those of what is behind it.
-/// None follows QUIT.
+/// Bytes that spell a request, with more behind them: the requests are this one and then those of what is
+/// behind it. None follows QUIT.
 pub fn requests_of_more()
     ensures request { (bytes more : List ℕ) (r : WholeRequest) → r ≢ Quit → Spells bytes r →
         requests_of (bytes ++ more) ≡ onto r (requests_of more) }

@@ -2,8 +2,8 @@ use std::alloc::Global;
 use std::marker::Model;
 use trace_base::{MAX_REQUEST_LINE, Memory};
 
-/// The line that is read, without its newline, in memory that is taken once. Contracts see it as the list of its
-/// bytes.
+/// The line that is read, without its newline, in memory that is taken once. Contracts see it as the list of
+/// its bytes.
 #[derive(Debug, Drop)]
 pub struct Line {
     bytes: Vec<u8>,

@@ -16,8 +16,8 @@ pub enum NextByte {
     Failed,
 }
 
-/// Bytes that a source gave and that wait to be taken. They lie in a chunk of memory that is taken once. Contracts
-/// see them as the list of the bytes that wait.
+/// Bytes that a source gave and that wait to be taken. They lie in a chunk of memory that is taken once.
+/// Contracts see them as the list of the bytes that wait.
 #[derive(Debug, Drop)]
 pub struct Pending {
     chunk: Vec<u8>,
@@ -110,7 +110,8 @@ impl Pending {
 
     /// Takes the next byte: the first that waits, or else the first of what the source gives.
     pub fn next_byte<I: Source>(&mut self, input: &mut I) -> NextByte
-        ensures gives { GivesByte (left_to_read self.old (I.left input.old)) (left_to_read self.new (I.left input.new)) result }
+        ensures gives { GivesByte (left_to_read self.old (I.left input.old))
+            (left_to_read self.new (I.left input.new)) result }
         ensures empties { LeavesNone result self.new }
         ensures later { I.faults input.old ≤ I.faults input.new }
         ensures cause { result ≡ byte.Failed → Rose (I.faults input.old) (I.faults input.new) }

@@ -33,7 +33,8 @@ pub fn read_line<R: Wait, I: Source>(
     line: &mut Line,
 ) -> LineEnd
     ensures reads { ReadsLine
-        (left_to_read pending.old (I.left input.old)) (left_to_read pending.new (I.left input.new)) line.new result }
+        (left_to_read pending.old (I.left input.old)) (left_to_read pending.new (I.left input.new)) line.new
+        result }
     ensures empties { EmptiesAtEnd result pending.new }
     ensures later { I.faults input.old ≤ I.faults input.new }
     ensures cause { result ≡ Failed → Rose (I.faults input.old) (I.faults input.new) }

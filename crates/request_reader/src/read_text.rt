@@ -29,7 +29,8 @@ pub fn read_text<I: Source>(
     len: usize,
 ) -> TextEnd
     ensures reads { ReadsText len
-        (left_to_read pending.old (I.left input.old)) (left_to_read pending.new (I.left input.new)) text.new.items result }
+        (left_to_read pending.old (I.left input.old)) (left_to_read pending.new (I.left input.new))
+        text.new.items result }
     ensures empties { EmptiesInText result pending.new }
     ensures later { I.faults input.old ≤ I.faults input.new }
     ensures cause { result ≡ Failed → Rose (I.faults input.old) (I.faults input.new) }

@@ -11,13 +11,15 @@ use session_proto::{Request, parse_request};
 use std::sync::Wait;
 use trace_base::Source;
 
-/// Reads the next request whole. What the source gave behind it waits in `buf.pending`. It may wait for input.
+/// Reads the next request whole. What the source gave behind it waits in `buf.pending`. It may wait for
+/// input.
 ///
-/// A line of more than 4,096 bytes is read to its end and is `Unreadable`. The bytes of a PUT, at most 65,536, are in
-/// `buf.text` then; where no memory is found for them they are read all the same, and the answer is `Dropped`. On
-/// `Cut` and `Failed` the bytes of the request that was begun are lost.
+/// A line of more than 4,096 bytes is read to its end and is `Unreadable`. The bytes of a PUT, at most
+/// 65,536, are in `buf.text` then; where no memory is found for them they are read all the same, and the
+/// answer is `Dropped`. On `Cut` and `Failed` the bytes of the request that was begun are lost.
 pub fn next_request<R: Wait, I: Source>(rt: &R, input: &mut I, buf: &mut InputBuf) -> Incoming
-    ensures comes { Comes (left_to_read buf.old.pending (I.left input.old)) (left_to_read buf.new.pending (I.left input.new))
+    ensures comes { Comes (left_to_read buf.old.pending (I.left input.old))
+        (left_to_read buf.new.pending (I.left input.new))
         buf.new.text.items result }
     ensures empties { EmptiesBuffer result buf.new.pending }
     ensures limits { IsWithinLimits result buf.new.text.items }

@@ -5,7 +5,8 @@ use std::sync::Wait;
 use std::test::Fail;
 use trace_base::{MemSource, Seq};
 
-/// What comes of these bytes, up to the end of the source or its first failure. `fails` lists the calls that fail.
+/// What comes of these bytes, up to the end of the source or its first failure. `fails` lists the calls that
+/// fail.
 fn incoming_of(
     rt: &impl Wait,
     alloc: Global,

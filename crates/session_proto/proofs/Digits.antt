@@ -1,5 +1,6 @@
 -- The value of digits, one digit after another.
-use Rattle.std.proofs.Common.{◌≡◌, ℕ, ◌+◌, ◌*◌, ◌^◌, ◌<◌, ◌≤◌, ◌⊎◌, ◌&&◌, Bool, true, false, cond, ltb, None, Some, List, length, take, get_or, refl, sym, arith, ⊎_elim}
+use Rattle.std.proofs.Common.{◌≡◌, ℕ, ◌+◌, ◌*◌, ◌^◌, ◌<◌, ◌≤◌, ◌⊎◌, ◌&&◌, Bool, true, false, cond, ltb, None}
+use Rattle.std.proofs.Common.{Some, List, length, take, get_or, refl, sym, arith, ⊎_elim}
 use Rattle.std.proofs.lemmas.Int.Digits.{digits_value_more}
 use Rattle.std.proofs.lemmas.List.Folds.{list_all_at}
 use Rattle.std.proofs.lemmas.Str.Parse.{digits_value-take-le}
@@ -11,10 +12,12 @@ use Rattle.std.specs.Str.Parse.{digits_value}
 use Rattle.session_proto.specs.Request.{digits_of}
 
 -- a byte that is no digit, or a digit with which the number is too large, makes the word none
-pub digits_of-none : (word : List ℕ) (i : ℕ) → i < length word → (is_ascii_digit (get_or word i 0) ≡ false) ⊎ (2 ^ 64 ≤ digits_value 10 (take i word) * 10 + digit_value (get_or word i 0)) → digits_of word ≡ None
+pub digits_of-none : (word : List ℕ) (i : ℕ) → i < length word → (is_ascii_digit (get_or word i 0) ≡ false)
+    ⊎ (2 ^ 64 ≤ digits_value 10 (take i word) * 10 + digit_value (get_or word i 0)) → digits_of word ≡ None
 unfolding digits_of
 digits_of-none word i below why = ⊎_elim
-    (λ other. let no : list_all is_ascii_digit word ≡ false = list_all_at is_ascii_digit word i 0 below other in rw no refl)
+    (λ other. let no : list_all is_ascii_digit word ≡ false = list_all_at is_ascii_digit word i 0 below other
+    in rw no refl)
     (λ large.
     let more = digits_value_more 10 word i below in
     let front = digits_value-take-le 10 word (i + 1) (omega arith) in
@@ -27,7 +30,9 @@ digits_of-none word i below why = ⊎_elim
     none_of false b n is = refl
 
 -- digits whose value was counted up to the end
-pub digits_of-all : (word : List ℕ) (i n : ℕ) → length word ≤ i → n < 2 ^ 64 → list_all is_ascii_digit (take i word) ≡ true → n ≡ digits_value 10 (take i word) → Some n ≡ digits_of word
+pub digits_of-all : (word : List ℕ) (i n : ℕ) → length word ≤ i → n < 2 ^ 64
+    → list_all is_ascii_digit (take i word) ≡ true → n ≡ digits_value 10 (take i word)
+    → Some n ≡ digits_of word
 unfolding digits_of
 digits_of-all word i n end small all value =
     let whole : take i word ≡ word = take_all i word end in

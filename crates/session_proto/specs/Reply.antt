@@ -17,7 +17,8 @@ at_place place = codes " @" ++ decimal place ++ 10 ∷ []
 
 -- the line of a function: its number, calls, times and name
 abbrev pub row_text : NamedRow → List ℕ
-row_text r = decimal r.row.func ++ spaced r.row.calls ++ spaced r.row.incl ++ spaced r.row.excl ++ 32 ∷ r.name ++ 10 ∷ []
+row_text r = decimal r.row.func ++ spaced r.row.calls ++ spaced r.row.incl ++ spaced r.row.excl ++ 32 ∷ r.name
+    ++ 10 ∷ []
 
 -- the line of a refusal
 abbrev pub no_text : No → List ℕ
@@ -33,7 +34,8 @@ unfoldable pub reply_text : Reply → List ℕ
 reply_text (reply.Put id tracks functions messages place) =
     codes "OK PUT" ++ spaced id ++ spaced tracks ++ spaced functions ++ spaced messages ++ at_place place
 reply_text (reply.Flat over bare rows place) =
-    (codes "OK FLAT" ++ spaced (length rows) ++ spaced over ++ spaced bare ++ at_place place) ++ flat_map row_text rows
+    (codes "OK FLAT" ++ spaced (length rows) ++ spaced over ++ spaced bare ++ at_place place)
+    ++ flat_map row_text rows
 reply_text reply.Quit = codes "OK QUIT\n"
 reply_text (reply.No refusal) = no_text refusal
 

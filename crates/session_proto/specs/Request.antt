@@ -1,5 +1,6 @@
 -- What a request line says. The line stands without its newline.
-use Rattle.std.specs.Prelude.{ℕ, ◌^◌, Bool, not, ◌&&◌, ◌||◌, ◌==◌, nat_lt, nat_le, if◌then◌else◌, List, [], ◌∷◌, length, slice_index, Option, None, Some, codes}
+use Rattle.std.specs.Prelude.{ℕ, ◌^◌, Bool, not, ◌&&◌, ◌||◌, ◌==◌, nat_lt, nat_le, if◌then◌else◌, List, []}
+use Rattle.std.specs.Prelude.{◌∷◌, length, slice_index, Option, None, Some, codes}
 use Rattle.std.specs.Char.{is_ascii_digit}
 use Rattle.std.specs.List.{list_all}
 use Rattle.std.specs.Str.{bytes_eq}
@@ -10,7 +11,8 @@ use Rattle.session_proto.specs.declared.request.Sel.TheVariants.{All}
 
 -- the number that decimal digits write, where it is below 2^64
 unfoldable pub digits_of : List ℕ → Option ℕ
-digits_of word = if list_all is_ascii_digit word && nat_lt (digits_value 10 word) (2 ^ 64) then Some (digits_value 10 word) else None
+digits_of word = if list_all is_ascii_digit word && nat_lt (digits_value 10 word) (2 ^ 64)
+    then Some (digits_value 10 word) else None
 
 -- whether the word isn't empty and has no leading zero
 abbrev pub has_own_form : List ℕ → Bool
@@ -50,7 +52,8 @@ request_of_words (verb ∷ len ∷ []) = if bytes_eq verb (codes "PUT") then put
 request_of_words (verb ∷ id ∷ sel ∷ []) = None
 request_of_words (verb ∷ id ∷ sel ∷ a ∷ []) = None
 request_of_words (verb ∷ id ∷ sel ∷ a ∷ b ∷ []) =
-    if bytes_eq verb (codes "FLAT") && bytes_eq sel (codes "*") then flat_of (number_of id) (number_of a) (number_of b) else None
+    if bytes_eq verb (codes "FLAT") && bytes_eq sel (codes "*") then flat_of (number_of id) (number_of a)
+    (number_of b) else None
 request_of_words (verb ∷ id ∷ sel ∷ a ∷ b ∷ more ∷ words) = None
 
 -- the request that the line is; a line of more than 4,096 bytes is none

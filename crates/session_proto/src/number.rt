@@ -41,7 +41,8 @@ fn digits(word: &[u8]) -> Option<u64>
 
 // The number with one more digit, where it is one and the number stays below 2^64.
 fn next_digit(n: u64, c: u8) -> Option<u64>
-    ensures digit { IfSome result (λ m. IsTrue (is_ascii_digit c) × (m ≡ n * 10 + digit_value c) × (m < 2 ^ 64)) }
+    ensures digit { IfSome result (λ m. IsTrue (is_ascii_digit c) × (m ≡ n * 10 + digit_value c)
+        × (m < 2 ^ 64)) }
     ensures none { IfNone result ((is_ascii_digit c ≡ false) ⊎ (2 ^ 64 ≤ n * 10 + digit_value c)) }
 {
     if !c.is_ascii_digit() {

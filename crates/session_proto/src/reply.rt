@@ -24,7 +24,8 @@ pub enum No {
     Memory,
 }
 
-/// The answer to a request. `place` is the request's place in the history, counted from 1; times are nanoseconds.
+/// The answer to a request. `place` is the request's place in the history, counted from 1; times are
+/// nanoseconds.
 #[derive(Debug, Drop)]
 pub enum Reply {
     /// The trace is open under this id, with so many tracks, functions and messages.

@@ -1,5 +1,5 @@
-//! What the clauses leave to their definitions: which lines are requests, and what each reply's text is. Both are
-//! worked by hand from docs/PROTOCOL.md.
+//! What the clauses leave to their definitions: which lines are requests, and what each reply's text is. Both
+//! are worked by hand from docs/PROTOCOL.md.
 use crate::{NamedRow, No, Reply, Request, Sel, parse_request, write_reply};
 use std::alloc::Global;
 use std::process::Abort;

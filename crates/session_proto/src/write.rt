@@ -1,4 +1,5 @@
-ghost use Rattle.std.specs.Prelude.{◌≡◌, ◌+◌, ◌≤◌, ◌<◌, ◌∷◌, ◌++◌, [], length, take, codes, decimal, OnOk, OnErr, IsOk, IsTrue, vec_len, vec_capacity};
+ghost use Rattle.std.specs.Prelude.{◌≡◌, ◌+◌, ◌≤◌, ◌<◌, ◌∷◌, ◌++◌, [], length, take, codes, decimal, OnOk};
+ghost use Rattle.std.specs.Prelude.{OnErr, IsOk, IsTrue, vec_len, vec_capacity};
 ghost use Rattle.std.specs.List.{flat_map};
 ghost use Rattle.session_proto.specs.Reply.{spaced, at_place, row_text, no_text, reply_text, is_short};
 
@@ -98,7 +99,8 @@ fn add_refusal(out: &mut Vec<u8>, no: &No)
 // Adds the line of a trace that is open.
 fn add_put(out: &mut Vec<u8>, id: u64, tracks: u64, functions: u64, messages: u64, place: u64)
     requires { vec_len out.old + 200 ≤ vec_capacity out.old }
-    ensures items { out.new.items ≡ out.old.items ++ (codes "OK PUT" ++ spaced id ++ spaced tracks ++ spaced functions
+    ensures items { out.new.items ≡ out.old.items
+        ++ (codes "OK PUT" ++ spaced id ++ spaced tracks ++ spaced functions
         ++ spaced messages ++ at_place place) }
     ensures capacity { vec_capacity out.old ≤ vec_capacity out.new }
 {
@@ -113,7 +115,8 @@ fn add_put(out: &mut Vec<u8>, id: u64, tracks: u64, functions: u64, messages: u6
 // Adds the first line of a profile.
 fn add_flat_head(out: &mut Vec<u8>, rows: u64, over: u32, bare: u128, place: u64)
     requires { vec_len out.old + 200 ≤ vec_capacity out.old }
-    ensures items { out.new.items ≡ out.old.items ++ (codes "OK FLAT" ++ spaced rows ++ spaced over ++ spaced bare ++ at_place place) }
+    ensures items { out.new.items ≡ out.old.items
+        ++ (codes "OK FLAT" ++ spaced rows ++ spaced over ++ spaced bare ++ at_place place) }
     ensures capacity { vec_capacity out.old ≤ vec_capacity out.new }
 {
     add(out, b"OK FLAT");
@@ -158,8 +161,8 @@ fn add_rows(out: &mut Vec<u8>, rows: &[NamedRow]) -> Result<(), Memory>
     Ok(())
 }
 
-/// Adds the text of a reply at the end. On `Memory` the text is as before; where there is room for 200 more bytes, a
-/// reply of one line can't fail.
+/// Adds the text of a reply at the end. On `Memory` the text is as before; where there is room for 200 more
+/// bytes, a reply of one line can't fail.
 #[tactic(auto, unfolding(crate::specs::Reply::reply_text))]
 pub fn write_reply(reply: &Reply, out: &mut Vec<u8>) -> Result<(), Memory>
     ensures ok { OnOk result (out.new.items ≡ out.old.items ++ reply_text reply.now) }
@@ -208,7 +211,8 @@ fn add_flat(
 ) -> Result<(), Memory>
     requires { vec_len out.old + 200 ≤ vec_capacity out.old }
     ensures ok { OnOk result (out.new.items ≡ out.old.items
-        ++ ((codes "OK FLAT" ++ spaced (length rows.now) ++ spaced over ++ spaced bare ++ at_place place) ++ flat_map row_text rows.now)) }
+        ++ ((codes "OK FLAT" ++ spaced (length rows.now) ++ spaced over ++ spaced bare ++ at_place place)
+        ++ flat_map row_text rows.now)) }
     ensures err { OnErr result (out.new.items ≡ out.old.items) }
     ensures capacity { vec_capacity out.old ≤ vec_capacity out.new }
 {

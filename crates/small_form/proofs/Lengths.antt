@@ -13,7 +13,16 @@ length-filter-le p xs = omega (arith, length-filter p xs, count_by-le-length p x
 
 pub length-different : (xs : List (List ℕ)) → length (different xs) ≤ length xs
 length-different [] = omega arith
-length-different (x ∷ xs) = omega (arith, length-filter-le (λ y. not (bytes_eq y x)) (different xs), length-different xs)
+length-different (x ∷ xs) = omega (
+  arith,
+  length-filter-le (λ y. not (bytes_eq y x)) (different xs),
+  length-different xs,
+)
 
 pub functions_few : (ls : List SmallLine) → length (functions ls) ≤ length ls
-functions_few ls = omega (arith, length-different (map (λ l. function_of_act l.act) (filter enters ls)), length-map (filter enters ls) (λ l. function_of_act l.act), length-filter-le enters ls)
+functions_few ls = omega (
+  arith,
+  length-different (map (λ l. function_of_act l.act) (filter enters ls)),
+  length-map (filter enters ls) (λ l. function_of_act l.act),
+  length-filter-le enters ls,
+)

@@ -1,5 +1,6 @@
 -- Which lines are in a list, and which texts.
-use Rattle.std.proofs.Common.{◌≡◌, ℕ, ◌<◌, Bool, true, cond, ◌||◌, List, [], ◌∷◌, length, map, filter, sym, refl, ap, subst, ◌∙◌, inl, inr, ◌⊎◌, arith}
+use Rattle.std.proofs.Common.{◌≡◌, ℕ, ◌<◌, Bool, true, cond, ◌||◌, List, [], ◌∷◌, length, map, filter, sym}
+use Rattle.std.proofs.Common.{refl, ap, subst, ◌∙◌, inl, inr, ◌⊎◌, arith}
 use Rattle.std.specs.List.{list_all}
 use Rattle.std.specs.Str.{bytes_eq}
 use Rattle.std.proofs.lemmas.Bool.{cases_Bool, and_parts, or_right}
@@ -13,28 +14,33 @@ In l [] = ⊥
 In l (k ∷ ks) = (l ≡ k) ⊎ In l ks
 
 -- a test that passes for each line of a list passes for all
-pub all_from_in : (p : SmallLine → Bool) (ls : List SmallLine) → ((l : SmallLine) → In l ls → p l ≡ true) → list_all p ls ≡ true
+pub all_from_in : (p : SmallLine → Bool) (ls : List SmallLine) → ((l : SmallLine) → In l ls → p l ≡ true)
+    → list_all p ls ≡ true
 all_from_in p [] each = refl
 all_from_in p (k ∷ ks) each = rw (each k (inl refl), all_from_in p ks (λ l i. each l (inr i))) refl
 
-pub in_all : (p : SmallLine → Bool) (ls : List SmallLine) (l : SmallLine) → list_all p ls ≡ true → In l ls → p l ≡ true
+pub in_all : (p : SmallLine → Bool) (ls : List SmallLine) (l : SmallLine) → list_all p ls ≡ true → In l ls
+    → p l ≡ true
 in_all p [] l all i = absurd i
 in_all p (k ∷ ks) l all i =
     let parts = and_parts (p k) (list_all p ks) all in
     elim i [ inl e ↦ ap p e ∙ parts.0 | inr j ↦ in_all p ks l parts.1 j ]
 
-pub in_filter : (q : SmallLine → Bool) (ls : List SmallLine) (l : SmallLine) → In l ls → q l ≡ true → In l (filter q ls)
+pub in_filter : (q : SmallLine → Bool) (ls : List SmallLine) (l : SmallLine) → In l ls → q l ≡ true
+    → In l (filter q ls)
 in_filter q [] l i h = absurd i
 in_filter q (k ∷ ks) l i h =
     elim i [
       | inl e ↦ subst (λ b. In l (cond b (k ∷ filter q ks) (filter q ks))) (sym (ap q (sym e) ∙ h)) (inl e)
       | inr j ↦ elim (cases_Bool (q k)) [
-        | inl e ↦ subst (λ b. In l (cond b (k ∷ filter q ks) (filter q ks))) (sym e) (inr (in_filter q ks l j h))
+        | inl e ↦ subst (λ b. In l (cond b (k ∷ filter q ks) (filter q ks))) (sym e)
+            (inr (in_filter q ks l j h))
         | inr e ↦ subst (λ b. In l (cond b (k ∷ filter q ks) (filter q ks))) (sym e) (in_filter q ks l j h)
       ]
     ]
 
-pub from_filter : (q : SmallLine → Bool) (ls : List SmallLine) (l : SmallLine) → In l (filter q ls) → In l ls × (q l ≡ true)
+pub from_filter : (q : SmallLine → Bool) (ls : List SmallLine) (l : SmallLine) → In l (filter q ls) → In l ls
+    × (q l ≡ true)
 from_filter q [] l i = absurd i
 from_filter q (k ∷ ks) l i =
     elim (cases_Bool (q k)) [
@@ -42,10 +48,12 @@ from_filter q (k ∷ ks) l i =
         | inl same ↦ (inl same, ap q same ∙ e)
         | inr j ↦ let r = from_filter q ks l j in (inr r.0, r.1)
       ]
-      | inr e ↦ let r = from_filter q ks l (subst (λ b. In l (cond b (k ∷ filter q ks) (filter q ks))) e i) in (inr r.0, r.1)
+      | inr e ↦ let r = from_filter q ks l (subst (λ b. In l (cond b (k ∷ filter q ks) (filter q ks))) e i)
+          in (inr r.0, r.1)
     ]
 
-pub in_map : (f : SmallLine → List ℕ) (ls : List SmallLine) (l : SmallLine) → In l ls → is_in (f l) (map f ls) ≡ true
+pub in_map : (f : SmallLine → List ℕ) (ls : List SmallLine) (l : SmallLine) → In l ls
+    → is_in (f l) (map f ls) ≡ true
 in_map f [] l i = absurd i
 in_map f (k ∷ ks) l i =
     elim i [
@@ -54,7 +62,8 @@ in_map f (k ∷ ks) l i =
     ]
 
 -- a text that is in the texts that f gives is given for a line
-pub from_map : (f : SmallLine → List ℕ) (ls : List SmallLine) (x : List ℕ) → is_in x (map f ls) ≡ true → (l : SmallLine) × In l ls × (f l ≡ x)
+pub from_map : (f : SmallLine → List ℕ) (ls : List SmallLine) (x : List ℕ) → is_in x (map f ls) ≡ true
+    → (l : SmallLine) × In l ls × (f l ≡ x)
 from_map f [] x h = cc
 from_map f (k ∷ ks) x h =
     elim (cases_Bool (bytes_eq (f k) x)) [
@@ -81,7 +90,8 @@ place-lt x (y ∷ ys) h =
     ]
 
 -- texts at one place are one
-pub place_same : (x y : List ℕ) (texts : List (List ℕ)) → is_in x texts ≡ true → is_in y texts ≡ true → place x texts ≡ place y texts → x ≡ y
+pub place_same : (x y : List ℕ) (texts : List (List ℕ)) → is_in x texts ≡ true → is_in y texts ≡ true
+    → place x texts ≡ place y texts → x ≡ y
 place_same x y [] h k same = cc
 place_same x y (z ∷ zs) h k same =
     elim (cases_Bool (bytes_eq z x)) [
@@ -91,6 +101,7 @@ place_same x y (z ∷ zs) h k same =
       ]
       | inr e ↦ elim (cases_Bool (bytes_eq z y)) [
         | inl f ↦ absurd (omega (arith, rw (e, f) at same))
-        | inr f ↦ place_same x y zs (ap (λ b. b || is_in x zs) (sym e) ∙ h) (ap (λ b. b || is_in y zs) (sym f) ∙ k) (omega (arith, rw (e, f) at same))
+        | inr f ↦ place_same x y zs (ap (λ b. b || is_in x zs) (sym e) ∙ h)
+            (ap (λ b. b || is_in y zs) (sym f) ∙ k) (omega (arith, rw (e, f) at same))
       ]
     ]

@@ -1,9 +1,12 @@
 -- One line of a small text: what it says, read from its bytes alone.
-use Rattle.std.specs.Prelude.{ℕ, ◌+◌, ◌-◌, ◌*◌, ◌^◌, Bool, false, ◌&&◌, ◌||◌, ◌==◌, nat_le, nat_lt, if◌then◌else◌, List, [], ◌∷◌, length, take, drop, fold, position, slice_index, codes, Option, Some, None, option_map, option_and_then}
+use Rattle.std.specs.Prelude.{ℕ, ◌+◌, ◌-◌, ◌*◌, ◌^◌, Bool, false, ◌&&◌, ◌||◌, ◌==◌, nat_le, nat_lt}
+use Rattle.std.specs.Prelude.{if◌then◌else◌, List, [], ◌∷◌, length, take, drop, fold, position, slice_index}
+use Rattle.std.specs.Prelude.{codes, Option, Some, None, option_map, option_and_then}
 use Rattle.std.specs.List.{list_all}
 use Rattle.std.specs.Str.{bytes_eq}
 
--- what a line does with its container: creates it under a label, enters a function, leaves a call, or destroys it
+-- what a line does with its container: creates it under a label, enters a function, leaves a call, or
+-- destroys it
 pub data Act : Type 0 where
   Creates : List ℕ → Act
   Enters : List ℕ → Act
@@ -65,7 +68,8 @@ within_limit t = if nat_le t (2 ^ 62) then Some t else None
 
 -- the time of 1 to 10 digits, and 1 to 9 behind a point
 unfoldable pub time_of_parts : List ℕ → List ℕ → Option ℕ
-time_of_parts whole fraction = if is_word is_digit 10 whole && is_word is_digit 9 fraction then within_limit (nanoseconds whole fraction) else None
+time_of_parts whole fraction = if is_word is_digit 10 whole && is_word is_digit 9 fraction
+    then within_limit (nanoseconds whole fraction) else None
 
 -- the time of 1 to 10 digits
 unfoldable pub time_of_whole : List ℕ → Option ℕ
@@ -92,7 +96,8 @@ is_quote b = b == 34
 
 -- whether the first and the last of the bytes are double quotes
 abbrev pub is_quoted : List ℕ → Bool
-is_quoted bytes = nat_lt 1 (length bytes) && (is_quote (slice_index bytes 0) && is_quote (slice_index bytes (length bytes - 1)))
+is_quoted bytes = nat_lt 1 (length bytes)
+    && (is_quote (slice_index bytes 0) && is_quote (slice_index bytes (length bytes - 1)))
 
 -- the label in double quotes
 unfoldable pub label_of : List ℕ → Option (List ℕ)
@@ -110,14 +115,16 @@ creation time bytes = do
   kind ← field_at name.1
   root ← field_at kind.1
   label ← label_of root.1
-  if is_name name.0 && (bytes_eq kind.0 (codes "P") && bytes_eq root.0 (codes "0")) then Some (line time name.0 (Creates label)) else None
+  if is_name name.0 && (bytes_eq kind.0 (codes "P") && bytes_eq root.0 (codes "0"))
+      then Some (line time name.0 (Creates label)) else None
 
 -- S p v
 unfoldable pub entry : ℕ → List ℕ → Option SmallLine
 entry time bytes = do
   kind ← field_at bytes
   name ← field_at kind.1
-  if bytes_eq kind.0 (codes "S") && (is_name name.0 && is_word is_letter_or_digit 32 name.1) then Some (line time name.0 (Enters name.1)) else None
+  if bytes_eq kind.0 (codes "S") && (is_name name.0 && is_word is_letter_or_digit 32 name.1)
+      then Some (line time name.0 (Enters name.1)) else None
 
 -- S p
 unfoldable pub leaving : ℕ → List ℕ → Option SmallLine
@@ -139,8 +146,8 @@ line_of_form form time bytes =
     else (if bytes_eq form (codes "4") then entry time bytes
     else (if bytes_eq form (codes "5") then leaving time bytes else None)))
 
--- What the bytes of a line say, without its newline. The forms are: 2 t p P 0 "n" creates the container p with the
--- label n, 3 t P p destroys it, 4 t S p v enters the function v, 5 t S p leaves a call.
+-- What the bytes of a line say, without its newline. The forms are: 2 t p P 0 "n" creates the container p
+-- with the label n, 3 t P p destroys it, 4 t S p v enters the function v, 5 t S p leaves a call.
 unfoldable pub line_of : List ℕ → Option SmallLine
 line_of bytes = do
   form ← field_at bytes

@@ -17,7 +17,8 @@ abbrev pub two_calls_said : TraceText
 two_calls_said = record {
   names = record {
     end = 500000000;
-    containers = record { name = codes "0"; start = 0; end = 500000000 } ∷ record { name = codes "rank 0"; start = 0; end = 500000000 } ∷ [];
+    containers = record { name = codes "0"; start = 0; end = 500000000 }
+        ∷ record { name = codes "rank 0"; start = 0; end = 500000000 } ∷ [];
     kinds = codes "State" ∷ [];
     link_kinds = [];
     tracks = record { container = 1; kind = 0 } ∷ [];
@@ -26,7 +27,8 @@ two_calls_said = record {
   tracks = record {
     start = 0;
     end = 500000000;
-    events = Enter 1 0 ∷ Enter 2 100000000 ∷ Leave 200000000 ∷ Enter 2 300000000 ∷ Leave 400000000 ∷ Leave 500000000 ∷ [];
+    events = Enter 1 0 ∷ Enter 2 100000000 ∷ Leave 200000000 ∷ Enter 2 300000000 ∷ Leave 400000000
+        ∷ Leave 500000000 ∷ [];
   } ∷ [];
   links = [];
 }
@@ -34,7 +36,8 @@ two_calls_said = record {
 -- two containers, of which the second one created calls first, and ends first
 unfoldable pub two_tracks : List ℕ
 two_tracks = head ++ text_of_lines (
-    codes "2 0 a P 0 \"x\"" ∷ codes "2 1 b P 0 \"y\"" ∷ codes "4 2 S b g" ∷ codes "4 1 S a f" ∷ codes "5 3 S b"
+    codes "2 0 a P 0 \"x\"" ∷ codes "2 1 b P 0 \"y\"" ∷ codes "4 2 S b g" ∷ codes "4 1 S a f"
+    ∷ codes "5 3 S b"
     ∷ codes "4 3 S a g" ∷ codes "5 4 S a" ∷ codes "5 5 S a" ∷ codes "3 3 P b" ∷ codes "3 6 P a" ∷ [])
 
 abbrev pub two_tracks_said : TraceText
@@ -42,7 +45,8 @@ two_tracks_said = record {
   names = record {
     end = 6000000000;
     containers =
-        record { name = codes "0"; start = 0; end = 6000000000 } ∷ record { name = codes "x"; start = 0; end = 6000000000 }
+        record { name = codes "0"; start = 0; end = 6000000000 }
+        ∷ record { name = codes "x"; start = 0; end = 6000000000 }
         ∷ record { name = codes "y"; start = 1000000000; end = 3000000000 } ∷ [];
     kinds = codes "State" ∷ [];
     link_kinds = [];
@@ -62,5 +66,6 @@ two_tracks_said = record {
 -- the same without the line that destroys the second container
 unfoldable pub one_destroyed : List ℕ
 one_destroyed = head ++ text_of_lines (
-    codes "2 0 a P 0 \"x\"" ∷ codes "2 1 b P 0 \"y\"" ∷ codes "4 2 S b g" ∷ codes "4 1 S a f" ∷ codes "5 3 S b"
+    codes "2 0 a P 0 \"x\"" ∷ codes "2 1 b P 0 \"y\"" ∷ codes "4 2 S b g" ∷ codes "4 1 S a f"
+    ∷ codes "5 3 S b"
     ∷ codes "4 3 S a g" ∷ codes "5 4 S a" ∷ codes "5 5 S a" ∷ codes "3 6 P a" ∷ [])

@@ -1,5 +1,6 @@
 -- Which lists of lines are legal. What a line may do depends on the lines before it that have its container.
-use Rattle.std.specs.Prelude.{ℕ, ◌-◌, Bool, true, false, not, ◌&&◌, ◌||◌, ◌==◌, nat_le, nat_lt, List, [], ◌∷◌, ◌++◌, filter, find, count_by, is_some}
+use Rattle.std.specs.Prelude.{ℕ, ◌-◌, Bool, true, false, not, ◌&&◌, ◌||◌, ◌==◌, nat_le, nat_lt, List, [], ◌∷◌}
+use Rattle.std.specs.Prelude.{◌++◌, filter, find, count_by, is_some}
 use Rattle.std.specs.List.{list_any, list_all}
 use Rattle.std.specs.Str.{bytes_eq}
 use Rattle.small_form.specs.Line.{SmallLine, Act, Creates, Enters, Leaves, Destroys}
@@ -77,7 +78,8 @@ all_follow before (l ∷ ls) = may_follow (of_container l.name before) l && all_
 
 -- each container that is created is destroyed
 unfoldable pub all_destroyed : List SmallLine → Bool
-all_destroyed lines = list_all (λ l. not (creates l) || is_some (find destroys (of_container l.name lines))) lines
+all_destroyed lines = list_all (λ l. not (creates l) || is_some (find destroys (of_container l.name lines)))
+    lines
 
 -- the lines of a small text, where each may stand where it does
 unfoldable pub are_legal : List SmallLine → Bool

@@ -1,5 +1,7 @@
 -- The small form of a trace: a fixed head, then lines of four forms; and what such a text says.
-use Rattle.std.specs.Prelude.{ℕ, ◌+◌, ◌==◌, max, if◌then◌else◌, List, [], ◌∷◌, ◌++◌, length, take, drop, map, filter, fold, find, filter_map, flat_map, codes, not, Option, Some, None, option_map, unwrap_or}
+use Rattle.std.specs.Prelude.{ℕ, ◌+◌, ◌==◌, max, if◌then◌else◌, List, [], ◌∷◌, ◌++◌, length, take, drop, map}
+use Rattle.std.specs.Prelude.{filter, fold, find, filter_map, flat_map, codes, not, Option, Some, None}
+use Rattle.std.specs.Prelude.{option_map, unwrap_or}
 use Rattle.std.specs.Str.{bytes_eq}
 use Rattle.trace_base.specs.declared.names.Container.{Container}
 use Rattle.trace_base.specs.declared.names.Track.{Track}
@@ -12,16 +14,22 @@ use Rattle.trace_base.specs.declared.text.TraceText.{TraceText}
 use Rattle.small_form.specs.Line.{SmallLine, Act, Creates, Enters, Leaves, Destroys, ◌>>=◌, line_of}
 use Rattle.small_form.specs.Rules.{creates, enters, destroys, of_container, are_legal}
 
--- the lines with which each small text begins: six events with their fields, the type of its containers and that of
--- its states
+-- the lines with which each small text begins: six events with their fields, the type of its containers and
+-- that of its states
 abbrev pub head_lines : List (List ℕ)
 head_lines =
-    codes "%EventDef PajeDefineContainerType 0" ∷ codes "% Alias string" ∷ codes "% Type string" ∷ codes "% Name string" ∷ codes "%EndEventDef"
-    ∷ codes "%EventDef PajeDefineStateType 1" ∷ codes "% Alias string" ∷ codes "% Type string" ∷ codes "% Name string" ∷ codes "%EndEventDef"
-    ∷ codes "%EventDef PajeCreateContainer 2" ∷ codes "% Time date" ∷ codes "% Alias string" ∷ codes "% Type string" ∷ codes "% Container string" ∷ codes "% Name string" ∷ codes "%EndEventDef"
-    ∷ codes "%EventDef PajeDestroyContainer 3" ∷ codes "% Time date" ∷ codes "% Type string" ∷ codes "% Name string" ∷ codes "%EndEventDef"
-    ∷ codes "%EventDef PajePushState 4" ∷ codes "% Time date" ∷ codes "% Type string" ∷ codes "% Container string" ∷ codes "% Value string" ∷ codes "%EndEventDef"
-    ∷ codes "%EventDef PajePopState 5" ∷ codes "% Time date" ∷ codes "% Type string" ∷ codes "% Container string" ∷ codes "%EndEventDef"
+    codes "%EventDef PajeDefineContainerType 0" ∷ codes "% Alias string" ∷ codes "% Type string"
+    ∷ codes "% Name string" ∷ codes "%EndEventDef"
+    ∷ codes "%EventDef PajeDefineStateType 1" ∷ codes "% Alias string" ∷ codes "% Type string"
+    ∷ codes "% Name string" ∷ codes "%EndEventDef"
+    ∷ codes "%EventDef PajeCreateContainer 2" ∷ codes "% Time date" ∷ codes "% Alias string"
+    ∷ codes "% Type string" ∷ codes "% Container string" ∷ codes "% Name string" ∷ codes "%EndEventDef"
+    ∷ codes "%EventDef PajeDestroyContainer 3" ∷ codes "% Time date" ∷ codes "% Type string"
+    ∷ codes "% Name string" ∷ codes "%EndEventDef"
+    ∷ codes "%EventDef PajePushState 4" ∷ codes "% Time date" ∷ codes "% Type string"
+    ∷ codes "% Container string" ∷ codes "% Value string" ∷ codes "%EndEventDef"
+    ∷ codes "%EventDef PajePopState 5" ∷ codes "% Time date" ∷ codes "% Type string"
+    ∷ codes "% Container string" ∷ codes "%EndEventDef"
     ∷ codes "0 P 0 Process" ∷ codes "1 S P State" ∷ []
 
 -- the text of lines, with a newline behind each
@@ -43,7 +51,8 @@ onto_line b (l ∷ ls) = Some ((b ∷ l) ∷ ls)
 -- the lines of a text, without the newline behind each; nothing where the last line lacks it
 unfoldable pub whole_lines : List ℕ → Option (List (List ℕ))
 whole_lines [] = Some []
-whole_lines (b ∷ bs) = if b == 10 then option_map (λ ls. [] ∷ ls) (whole_lines bs) else whole_lines bs >>= onto_line b
+whole_lines (b ∷ bs) = if b == 10 then option_map (λ ls. [] ∷ ls) (whole_lines bs)
+    else whole_lines bs >>= onto_line b
 
 -- what f gives of each element; nothing where it gives nothing of one
 unfoldable pub each_of : {A B : Type 0} → (A → Option B) → List A → Option (List B)
@@ -110,7 +119,8 @@ container_of lines l = record { name = label_of_act l.act; start = l.time; end =
 
 -- the root, which lasts as long as the text, and the containers that are created
 abbrev pub containers : List SmallLine → List Container
-containers lines = record { name = codes "0"; start = 0; end = greatest_time lines } ∷ map (container_of lines) (filter creates lines)
+containers lines = record { name = codes "0"; start = 0; end = greatest_time lines }
+    ∷ map (container_of lines) (filter creates lines)
 
 -- the track of a container's calls
 abbrev pub track_of : List SmallLine → List ℕ → Track

@@ -2,7 +2,8 @@
 ghost use Rattle.std.specs.Prelude.{◌≡◌, ◌+◌, ◌≤◌, length, map, IfOk};
 ghost use Rattle.std.specs.List.{list_any};
 ghost use Rattle.std.specs.Str.{bytes_eq};
-ghost use Rattle.small_form.specs.SmallForm.{place, greatest_time, created_names, track_names, functions, start_of, event_of};
+ghost use Rattle.small_form.specs.SmallForm.{place, greatest_time, created_names, track_names, functions};
+ghost use Rattle.small_form.specs.SmallForm.{start_of, event_of};
 ghost use Rattle.small_form.specs.View.{view, views};
 
 use crate::line::{Action, Line};
@@ -20,7 +21,8 @@ pub(crate) fn greatest_time_of(lines: &[Line<'_>]) -> u64
     greatest
 }
 
-/// The place at which the text stands first, counted from 0, or the number of texts where it isn't among them.
+/// The place at which the text stands first, counted from 0, or the number of texts where it isn't among
+/// them.
 fn place_of(text: &[u8], texts: &[Name]) -> usize
     ensures found { result ≡ place text.now texts.now }
     ensures within { result ≤ length texts.now }

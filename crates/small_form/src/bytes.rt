@@ -1,7 +1,10 @@
 //! The bytes of names, words and times.
-ghost use Rattle.std.specs.Prelude.{◌≡◌, ◌==◌, ◌<◌, ◌≤◌, ◌*◌, ◌^◌, ◌-◌, length, position, option_map, IsTrue, IfSome};
+ghost use Rattle.std.specs.Prelude.{◌≡◌, ◌==◌, ◌<◌, ◌≤◌, ◌*◌, ◌^◌, ◌-◌, length, position, option_map, IsTrue};
+ghost use Rattle.std.specs.Prelude.{IfSome};
 ghost use Rattle.std.specs.List.{list_all};
-ghost use Rattle.small_form.specs.Line.{is_digit, is_letter, is_letter_or_digit, is_label_byte, is_tail, is_word, is_name, number, time_of, time_of_whole, time_of_parts, within_limit, parts_at, field_at, label_of};
+ghost use Rattle.small_form.specs.Line.{is_digit, is_letter, is_letter_or_digit, is_label_byte, is_tail};
+ghost use Rattle.small_form.specs.Line.{is_word, is_name, number, time_of, time_of_whole, time_of_parts};
+ghost use Rattle.small_form.specs.Line.{within_limit, parts_at, field_at, label_of};
 
 use trace_base::MAX_TIME;
 

@@ -10,8 +10,8 @@ use crate::trace::trace_of;
 use std::alloc::Global;
 use trace_base::TraceText;
 
-/// Reads a text of at most 65,536 bytes in the small form. What it answers is a legal trace without messages. `Unbuilt`
-/// where the text isn't in the small form, and `Memory` where none was found.
+/// Reads a text of at most 65,536 bytes in the small form. What it answers is a legal trace without messages.
+/// `Unbuilt` where the text isn't in the small form, and `Memory` where none was found.
 #[tactic(auto, unfolding(crate::specs::SmallForm::small_form))]
 pub fn read_small(alloc: Global, text: &[u8]) -> Result<TraceText, SmallFault>
     requires { length text.now ≤ 65536 }
@@ -21,7 +21,8 @@ pub fn read_small(alloc: Global, text: &[u8]) -> Result<TraceText, SmallFault>
     ensures legal { IfOk result (λ t. IsLegalInfo (info_of t)) }
     ensures lengths { IfOk result (λ t. length t.tracks ≡ length t.names.tracks) }
     // Each stream may be published as the track of its place.
-    ensures fits { IfOk result (λ t. (i : ℕ) (s : TrackStream) → slice_get t.tracks i ≡ Some s → Fits s (info_of t) i) }
+    ensures fits { IfOk result (λ t. (i : ℕ) (s : TrackStream) → slice_get t.tracks i ≡ Some s
+        → Fits s (info_of t) i) }
 {
     let lines = read_small_lines(alloc, text)?;
     if !legal(&lines) {

@@ -2,7 +2,8 @@
 ghost use Rattle.std.specs.Prelude.{◌≡◌, ◌^◌, length, Some, None, codes};
 ghost use Rattle.small_form.specs.Line.{Creates, Enters, Leaves, Destroys, line, line_of, time_of};
 ghost use Rattle.small_form.specs.SmallForm.{small_form};
-ghost use Rattle.small_form.specs.Rows.{two_calls, two_calls_said, two_tracks, two_tracks_said, one_destroyed};
+ghost use Rattle.small_form.specs.Rows.{two_calls, two_calls_said, two_tracks, two_tracks_said};
+ghost use Rattle.small_form.specs.Rows.{one_destroyed};
 
 /// The times of words, in nanoseconds.
 #[tactic(auto, unfolding(crate::specs::Line::number, crate::specs::Line::nanoseconds, crate::specs::Line::time_of_parts, crate::specs::Line::time_of_whole, crate::specs::Line::time_of))]
@@ -19,7 +20,8 @@ pub fn times_of_words()
 /// What lines of each form say, and three that say nothing.
 #[tactic(auto, unfolding(crate::specs::Line::is_name, crate::specs::Line::number, crate::specs::Line::nanoseconds, crate::specs::Line::time_of_parts, crate::specs::Line::time_of_whole, crate::specs::Line::time_of, crate::specs::Line::parts_at, crate::specs::Line::label_of, crate::specs::Line::creation, crate::specs::Line::entry, crate::specs::Line::leaving, crate::specs::Line::destruction, crate::specs::Line::line_of_form, crate::specs::Line::line_of))]
 pub fn lines_said()
-    ensures creation { line_of (codes "2 7 p0 P 0 \"rank 0\"") ≡ Some (line 7000000000 (codes "p0") (Creates (codes "rank 0"))) }
+    ensures creation { line_of (codes "2 7 p0 P 0 \"rank 0\"") ≡ Some
+        (line 7000000000 (codes "p0") (Creates (codes "rank 0"))) }
     ensures entry { line_of (codes "4 0.1 S p0 f") ≡ Some (line 100000000 (codes "p0") (Enters (codes "f"))) }
     ensures leaving { line_of (codes "5 0 S p0") ≡ Some (line 0 (codes "p0") Leaves) }
     ensures destruction { line_of (codes "3 1 P p0") ≡ Some (line 1000000000 (codes "p0") Destroys) }

@@ -1,6 +1,7 @@
 //! Which lines are those of a small text.
 ghost use Rattle.std.specs.Prelude.{◌≡◌, ◌<◌, ◌≤◌, [], length, map, find, option_map};
-ghost use Rattle.small_form.specs.Rules.{destroys, of_container, may_follow, all_follow, all_destroyed, are_legal};
+ghost use Rattle.small_form.specs.Rules.{destroys, of_container, may_follow, all_follow, all_destroyed};
+ghost use Rattle.small_form.specs.Rules.{are_legal};
 ghost use Rattle.small_form.specs.Tallies.{tally, tally_more};
 ghost use Rattle.small_form.specs.View.{view, views};
 

@@ -58,8 +58,9 @@ fn show(alloc: Global, trace: &TraceText) -> Result<String, AllocError> {
     Ok(out)
 }
 
-/// Lines and what they say: main calls f twice; a call of itself; two calls of no length; two containers, of which
-/// the second one created calls first; a name of 32 bytes and the greatest time; nothing behind the head.
+/// Lines and what they say: main calls f twice; a call of itself; two calls of no length; two containers, of
+/// which the second one created calls first; a name of 32 bytes and the greatest time; nothing behind the
+/// head.
 fn texts() -> &'static str {
     "2 0 p0 P 0 \"rank 0\"\n4 0 S p0 main\n4 0.1 S p0 f\n5 0.2 S p0\n4 0.3 S p0 f\n5 0.4 S p0\n5 0.5 S p0\n\
     3 0.5 P p0\n=500000000; 0 0 500000000; rank 0 0 500000000 | main f | 1 \

@@ -44,7 +44,8 @@ fn events_of(
     name: &[u8],
 ) -> Result<Vec<Event>, Memory>
     requires { length functions.now ≤ 65536 }
-    ensures { IfOk result (λ v. v.items ≡ filter_map (event_of functions.now) (of_container name.now (views lines.now))) }
+    ensures { IfOk result (λ v. v.items ≡ filter_map (event_of functions.now)
+        (of_container name.now (views lines.now))) }
 {
     let mut events = Vec::new(alloc);
     for line in lines {

@@ -1,5 +1,7 @@
--- The flat profile of streams over the half-open interval [a, b): what it has for each function, read off the pieces.
-use Rattle.std.specs.Prelude.{ℕ, ◌-◌, Bool, false, ◌&&◌, ◌||◌, ◌==◌, nat_le, nat_lt, min, max, List, length, map, filter, fold, sum_by, count_by, slice_get}
+-- The flat profile of streams over the half-open interval [a, b): what it has for each function, read off the
+-- pieces.
+use Rattle.std.specs.Prelude.{ℕ, ◌-◌, Bool, false, ◌&&◌, ◌||◌, ◌==◌, nat_le, nat_lt, min, max, List, length}
+use Rattle.std.specs.Prelude.{map, filter, fold, sum_by, count_by, slice_get}
 use Rattle.std.specs.List.{list_any, range_with_len}
 use Rattle.std.specs.Option.{option_map_or}
 use Rattle.trace_base.specs.Stream.{Piece, pieces}

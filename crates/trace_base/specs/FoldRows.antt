@@ -10,14 +10,35 @@ no_time_under = record { start = 0; end = 100; events = Enter 1 0 ∷ Enter 2 10
 
 -- f calls g, then g calls f
 abbrev pub both_ways : TrackStream
-both_ways = record { start = 0; end = 10; events = Enter 2 0 ∷ Enter 1 1 ∷ Leave 3 ∷ Leave 4 ∷ Enter 1 4 ∷ Enter 2 7 ∷ Leave 8 ∷ Leave 10 ∷ [] }
+both_ways = record {
+  start = 0;
+  end = 10;
+  events = Enter 2 0 ∷ Enter 1 1 ∷ Leave 3 ∷ Leave 4 ∷ Enter 1 4
+      ∷ Enter 2 7 ∷ Leave 8 ∷ Leave 10 ∷ [];
+}
 
 -- a start of a message with the one key of its link type
 abbrev pub start_link : ℕ → ℕ → ℕ → ℕ → ℕ → LinkEvent
-start_link kind key container time size = record { starts = true; kind = kind; key = key ∷ []; container = container; time = time; size = size }
+start_link kind key container time size = record {
+  starts = true;
+  kind = kind;
+  key = key ∷ [];
+  container =
+      container;
+  time = time;
+  size = size;
+}
 
 abbrev pub end_link : ℕ → ℕ → ℕ → ℕ → LinkEvent
-end_link kind key container time = record { starts = false; kind = kind; key = key ∷ []; container = container; time = time; size = 0 }
+end_link kind key container time = record {
+  starts = false;
+  kind = kind;
+  key = key ∷ [];
+  container =
+      container;
+  time = time;
+  size = 0;
+}
 
 -- two starts of a key and one end of it, and a message that is received before it is sent
 abbrev pub three_starts : List LinkEvent

@@ -31,16 +31,18 @@ pub record IsLegalInfo (info : TraceInfo) : Type 0 where
   pub intervals : All IsLegalContainer info.names.containers
   pub existing : All (NamesExisting info.names) info.names.tracks
   -- no two tracks are the same pair of a container and a kind
-  pub distinct : (i j : ℕ) (t : Track) → slice_get info.names.tracks i ≡ Some t → slice_get info.names.tracks j ≡ Some t → i ≡ j
+  pub distinct : (i j : ℕ) (t : Track) → slice_get info.names.tracks i ≡ Some t
+      → slice_get info.names.tracks j ≡ Some t → i ≡ j
   pub joined : All (JoinsExisting info.names) info.messages.messages
 
 -- the stream has the interval of the container
 abbrev pub Spans : TrackStream → Container → Type 0
 Spans s c = (s.start ≡ c.start) × (s.end ≡ c.end)
 
--- A stream that may be published as this track: it is legal, it starts and ends with the track's container, and
--- the names number its functions.
+-- A stream that may be published as this track: it is legal, it starts and ends with the track's container,
+-- and the names number its functions.
 pub record Fits (s : TrackStream) (info : TraceInfo) (track : ℕ) : Type 0 where
   pub legal : IsLegal s
-  pub interval : (t : Track) × (c : Container) × (slice_get info.names.tracks track ≡ Some t) × (slice_get info.names.containers t.container ≡ Some c) × Spans s c
+  pub interval : (t : Track) × (c : Container) × (slice_get info.names.tracks track ≡ Some t)
+      × (slice_get info.names.containers t.container ≡ Some c) × Spans s c
   pub numbered : (i f t : ℕ) → slice_get s.events i ≡ Some (Enter f t) → f ≤ length info.names.functions

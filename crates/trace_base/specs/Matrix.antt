@@ -1,5 +1,6 @@
 -- The communication matrix of messages over a half-open interval.
-use Rattle.std.specs.Prelude.{ℕ, ◌+◌, ◌-◌, Bool, ◌&&◌, ◌==◌, nat_lt, max, List, length, map, filter, fold, sum_by, count_by}
+use Rattle.std.specs.Prelude.{ℕ, ◌+◌, ◌-◌, Bool, ◌&&◌, ◌==◌, nat_lt, max, List, length, map, filter, fold}
+use Rattle.std.specs.Prelude.{sum_by, count_by}
 use Rattle.std.specs.List.{flat_map, list_any, range_with_len}
 use Rattle.trace_base.specs.Flat.{is_within}
 use Rattle.trace_base.specs.declared.matrix.Matrix.{Matrix}
@@ -48,4 +49,7 @@ pairs_of messages = filter (λ p. list_any (is_of p) messages) (pairs_below (gre
 
 -- the matrix of the messages that were sent within [a, b): a row for each pair that has one
 unfoldable pub matrix_of : List Message → ℕ → ℕ → Matrix
-matrix_of messages a b = record { rows = map (pair_row (sent_within a b messages)) (pairs_of (sent_within a b messages)) }
+matrix_of messages a b = record {
+  rows = map (pair_row (sent_within a b messages))
+      (pairs_of (sent_within a b messages));
+}

@@ -1,5 +1,7 @@
 -- Which link events are the two ends of a message, and the order of a table of messages.
-use Rattle.std.specs.Prelude.{ℕ, ◌-◌, ◌*◌, Bool, not, ◌&&◌, ◌==◌, nat_eq, if◌then◌else◌, List, [], ◌∷◌, ◌++◌, length, take, filter, fold, slice_get, Option, None, option_map, option_and_then}
+use Rattle.std.specs.Prelude.{ℕ, ◌-◌, ◌*◌, Bool, not, ◌&&◌, ◌==◌, nat_eq, if◌then◌else◌, List, [], ◌∷◌, ◌++◌}
+use Rattle.std.specs.Prelude.{length, take, filter, fold, slice_get, Option, None, option_map}
+use Rattle.std.specs.Prelude.{option_and_then}
 use Rattle.std.specs.Cmp.Lexicographic.{pointwise}
 use Rattle.std.specs.List.{filter_map, range_with_len}
 use Rattle.std.specs.Ordering.{is_lt, nat_cmp, ordering_then}
@@ -21,12 +23,19 @@ ends_like l links = filter (λ m. not m.starts && is_joined m l) links
 
 -- the message of this start and this end
 abbrev pub message_between : LinkEvent → LinkEvent → Message
-message_between start end = record { from = start.container; to = end.container; send = start.time; receive = end.time; size = start.size }
+message_between start end = record {
+  from = start.container;
+  to = end.container;
+  send = start.time;
+  receive = end.time;
+  size = start.size;
+}
 
--- The message that this link event starts at place i: a start after k others of its link type and key goes with the
--- end after k others of them.
+-- The message that this link event starts at place i: a start after k others of its link type and key goes
+-- with the end after k others of them.
 abbrev pub message_from : List LinkEvent → ℕ → LinkEvent → Option Message
-message_from links i l = if l.starts then option_map (message_between l) (slice_get (ends_like l links) (length (starts_like l (take i links)))) else None
+message_from links i l = if l.starts then option_map (message_between l)
+    (slice_get (ends_like l links) (length (starts_like l (take i links)))) else None
 
 -- the message that link event i starts
 abbrev pub message_at : List LinkEvent → ℕ → Option Message
@@ -38,7 +47,8 @@ messages_started links = filter_map (message_at links) (range_with_len 0 (length
 
 -- whether the message comes first in a table: by its sender, then its receiver, then when it was sent
 abbrev pub comes_before : Message → Message → Bool
-comes_before m n = is_lt (ordering_then (ordering_then (nat_cmp m.from n.from) (nat_cmp m.to n.to)) (nat_cmp m.send n.send))
+comes_before m n = is_lt (ordering_then (ordering_then (nat_cmp m.from n.from) (nat_cmp m.to n.to))
+    (nat_cmp m.send n.send))
 
 -- the message put into a table, after those that it doesn't come before
 abbrev pub put : Message → List Message → List Message

@@ -1,6 +1,7 @@
--- The call-tree profile of streams over the half-open interval [a, b): what it has for each call path, where a path is
--- a call stack from the outermost call down.
-use Rattle.std.specs.Prelude.{ℕ, ◌+◌, ◌-◌, zero, suc, Bool, true, false, ◌&&◌, ◌||◌, nat_eq, nat_lt, List, [], ◌∷◌, ◌++◌, length, take, sum_by, count_by, slice_index, slice_get}
+-- The call-tree profile of streams over the half-open interval [a, b): what it has for each call path, where
+-- a path is a call stack from the outermost call down.
+use Rattle.std.specs.Prelude.{ℕ, ◌+◌, ◌-◌, zero, suc, Bool, true, false, ◌&&◌, ◌||◌, nat_eq, nat_lt, List, []}
+use Rattle.std.specs.Prelude.{◌∷◌, ◌++◌, length, take, sum_by, count_by, slice_index, slice_get}
 use Rattle.std.specs.Cmp.Lexicographic.{pointwise}
 use Rattle.std.specs.List.{flat_map, range_with_len, starts_with}
 use Rattle.std.specs.Option.{option_map_or}
@@ -20,7 +21,8 @@ is_under path stack = starts_with nat_eq stack path
 
 -- whether event i begins a call within the interval that makes a call stack with the property
 abbrev pub makes : (List ℕ → Bool) → ℕ → ℕ → TrackStream → ℕ → Bool
-makes has a b s i = option_map_or (λ e. is_enter e && is_within a b (time_of e)) (slice_get s.events i) false && has (stack_after (take (i + 1) s.events))
+makes has a b s i = option_map_or (λ e. is_enter e && is_within a b (time_of e)) (slice_get s.events i) false
+    && has (stack_after (take (i + 1) s.events))
 
 -- the calls that begin within the interval and make a call stack with the property
 unfoldable pub calls_making : (List ℕ → Bool) → ℕ → ℕ → TrackStream → ℕ
@@ -38,15 +40,21 @@ path_row streams a b path = record {
 
 -- a row is told where a path that begins with this one began a call or took time of its own
 unfoldable pub path_stands : List TrackStream → ℕ → ℕ → List ℕ → Bool
-path_stands streams a b path = nat_lt 0 (sum_by (calls_making (is_under path) a b) streams) || nat_lt 0 (sum_by (time_with (is_under path) a b) streams)
+path_stands streams a b path = nat_lt 0 (sum_by (calls_making (is_under path) a b) streams)
+    || nat_lt 0 (sum_by (time_with (is_under path) a b) streams)
 
--- The rows of the paths that begin with this one and are at most so many calls longer, in depth-first order: a path's
--- own row, then those under it, siblings rising by function.
+-- The rows of the paths that begin with this one and are at most so many calls longer, in depth-first order:
+-- a path's own row, then those under it, siblings rising by function.
 unfoldable pub rows_under : ℕ → List TrackStream → ℕ → ℕ → List ℕ → List PathRow
 rows_under zero streams a b path = []
-rows_under (suc more) streams a b path = flat_map (λ f. elim (path_stands streams a b (path ++ f ∷ [])) [ true ↦ path_row streams a b (path ++ f ∷ []) ∷ rows_under more streams a b (path ++ f ∷ []) | false ↦ [] ]) (range_with_len 1 (greatest_function streams))
+rows_under (suc more) streams a b path =
+    flat_map (λ f. elim (path_stands streams a b (path ++ f ∷ [])) [
+      | true ↦ path_row streams a b (path ++ f ∷ []) ∷ rows_under more streams a b (path ++ f ∷ [])
+      | false ↦ []
+    ]) (range_with_len 1 (greatest_function streams))
 
--- The call-tree profile of the streams over [a, b), their numbers added. No legal stream has more than 256 calls open.
+-- The call-tree profile of the streams over [a, b), their numbers added. No legal stream has more than 256
+-- calls open.
 unfoldable pub paths : List TrackStream → ℕ → ℕ → PathProfile
 paths streams a b = record {
   bare = sum_by (time_with is_bare a b) streams;

@@ -8,7 +8,8 @@ abbrev pub two_calls : TrackStream
 two_calls = record {
   start = 0;
   end = 500000000;
-  events = Enter 1 0 ∷ Enter 2 100000000 ∷ Leave 200000000 ∷ Enter 2 300000000 ∷ Leave 400000000 ∷ Leave 500000000 ∷ [];
+  events = Enter 1 0 ∷ Enter 2 100000000 ∷ Leave 200000000 ∷ Enter 2 300000000 ∷ Leave 400000000
+      ∷ Leave 500000000 ∷ [];
 }
 
 -- f calls itself

@@ -6,5 +6,6 @@ use Rattle.trace_base.specs.declared.sink.WriteAnswer.TheVariants.{Took, Failed}
 
 -- the first bytes are added at the end; a failed write adds nothing
 abbrev pub Writes : Option (List ℕ) → Option (List ℕ) → List ℕ → WriteAnswer → Type 0
-Writes old new bytes (Took n) = (1 ≤ n) × (n ≤ length bytes) × Told old new (λ was now. now ≡ was ++ take n bytes)
+Writes old new bytes (Took n) = (1 ≤ n) × (n ≤ length bytes)
+    × Told old new (λ was now. now ≡ was ++ take n bytes)
 Writes old new bytes Failed = new ≡ old

@@ -1,5 +1,6 @@
 -- What the raw events of a track mean: the call stack, its pieces in time, and which streams are legal.
-use Rattle.std.specs.Prelude.{◌≡◌, ◌≢◌, ℕ, ◌+◌, ◌-◌, ◌^◌, ◌≤◌, Bool, true, false, List, [], ◌∷◌, ◌++◌, length, take, map, fold, filter, slice_index, slice_get, Some}
+use Rattle.std.specs.Prelude.{◌≡◌, ◌≢◌, ℕ, ◌+◌, ◌-◌, ◌^◌, ◌≤◌, Bool, true, false, List, [], ◌∷◌, ◌++◌, length}
+use Rattle.std.specs.Prelude.{take, map, fold, filter, slice_index, slice_get, Some}
 use Rattle.std.specs.List.{range_with_len}
 use Rattle.std.specs.List.Sorted.{IsNonDecreasing}
 use Rattle.trace_base.specs.declared.stream.Event.{Event}
@@ -47,8 +48,8 @@ piece s i = record {
 unfoldable pub pieces : TrackStream → List Piece
 pieces s = map (piece s) (range_with_len 0 (length s.events + 1))
 
--- The stream of a track within the limits: times don't fall and lie from its start to its end, each Leave closes a
--- call that is open, and none is left open.
+-- The stream of a track within the limits: times don't fall and lie from its start to its end, each Leave
+-- closes a call that is open, and none is left open.
 pub record IsLegal (s : TrackStream) : Type 0 where
   pub in_time : s.end ≤ 2 ^ 62
   pub in_order : IsNonDecreasing (moments s)

@@ -15,11 +15,13 @@ pixel_start a b px i = a + (i * (b - a)) / px
 abbrev pub greatest_excl : List Row → ℕ
 greatest_excl rows = fold (λ m row. max m row.excl) 0 rows
 
--- The function of the first row with the greatest time of its own, 0 where none has any. The first is the one of the
--- least number, since rows rise.
+-- The function of the first row with the greatest time of its own, 0 where none has any. The first is the one
+-- of the least number, since rows rise.
 abbrev pub busiest : Profile → ℕ
-busiest p = option_map_or (λ row. row.func) (find (λ row. nat_lt 0 row.excl && (row.excl == greatest_excl p.rows)) p.rows) 0
+busiest p = option_map_or (λ row. row.func)
+    (find (λ row. nat_lt 0 row.excl && (row.excl == greatest_excl p.rows)) p.rows) 0
 
 -- the busiest function of each pixel
 unfoldable pub timeline : TrackStream → ℕ → ℕ → ℕ → List ℕ
-timeline s a b px = map (λ i. busiest (flat (s ∷ []) (pixel_start a b px i) (pixel_start a b px (i + 1)))) (range_with_len 0 px)
+timeline s a b px = map (λ i. busiest (flat (s ∷ []) (pixel_start a b px i) (pixel_start a b px (i + 1))))
+    (range_with_len 0 px)

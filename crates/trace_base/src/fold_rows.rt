@@ -20,8 +20,8 @@ pub fn timeline_of_two_calls()
     ensures uneven { timeline both_ways 0 3 2 ≡ 2 ∷ 1 ∷ [] }
 {}
 
-/// The call-tree profile of a call that calls itself, of two functions that call each other, and of a path that is
-/// told only because a call under it began.
+/// The call-tree profile of a call that calls itself, of two functions that call each other, and of a path
+/// that is told only because a call under it began.
 #[tactic(auto, unfolding(crate::specs::Stream::stack_after, crate::specs::Stream::pieces, crate::specs::Flat::time_with, crate::specs::Flat::greatest_function, crate::specs::Paths::calls_making, crate::specs::Paths::path_row, crate::specs::Paths::path_stands, crate::specs::Paths::rows_under, crate::specs::Paths::paths))]
 pub fn paths_of_small_streams()
     ensures recursion { paths (recursion ∷ []) 0 10 ≡ record {
@@ -53,8 +53,8 @@ pub fn paths_of_small_streams()
     } }
 {}
 
-/// The table of three starts and two ends, and its matrix over an interval with both messages and over one that ends
-/// where the first is sent.
+/// The table of three starts and two ends, and its matrix over an interval with both messages and over one
+/// that ends where the first is sent.
 #[tactic(auto, unfolding(crate::specs::Messages::messages_started, crate::specs::Messages::in_table_order, crate::specs::Messages::table_of, crate::specs::Matrix::pair_row, crate::specs::Matrix::pairs_of, crate::specs::Matrix::matrix_of))]
 pub fn messages_of_three_starts()
     ensures table { table_of three_starts ≡ record {
@@ -65,15 +65,24 @@ pub fn messages_of_three_starts()
     } }
     ensures matrix { matrix_of ((table_of three_starts).messages) 0 4000000000 ≡ record {
       rows =
-          record { from = 1; to = 2; count = 1; bytes = 100; transit = 500000000; greatest = 500000000; backward = 0 }
+          record {
+            from = 1;
+            to = 2;
+            count = 1;
+            bytes = 100;
+            transit = 500000000;
+            greatest = 500000000;
+            backward = 0;
+          }
           ∷ record { from = 2; to = 1; count = 1; bytes = 7; transit = 0; greatest = 0; backward = 1 } ∷ [];
     } }
     ensures none { matrix_of ((table_of three_starts).messages) 0 1000000000 ≡ record { rows = [] } }
 {}
 
-/// The table of two starts before two ends of one key, beside another link type with that key: messages of one pair
-/// stand by the time they were sent, and those that tie in the order of their starts. The matrix counts them over
-/// intervals that end where the last is sent and after it. An end may stand before its start.
+/// The table of two starts before two ends of one key, beside another link type with that key: messages of
+/// one pair stand by the time they were sent, and those that tie in the order of their starts. The matrix
+/// counts them over intervals that end where the last is sent and after it. An end may stand before its
+/// start.
 #[tactic(auto, unfolding(crate::specs::Messages::messages_started, crate::specs::Messages::in_table_order, crate::specs::Messages::table_of, crate::specs::Matrix::pair_row, crate::specs::Matrix::pairs_of, crate::specs::Matrix::matrix_of))]
 pub fn messages_of_crossed_links()
     ensures table { table_of crossed ≡ record {

@@ -1,7 +1,8 @@
 //! The limits of the product.
 //!
-//! Sums of times and of sizes are kept in 128 bits, and they fit: a track lasts at most 2^62 nanoseconds, and at most
-//! 4,096 tracks are summed; a trace has at most 2^21 messages, each with a size and a time on the way below 2^64.
+//! Sums of times and of sizes are kept in 128 bits, and they fit: a track lasts at most 2^62 nanoseconds, and
+//! at most 4,096 tracks are summed; a trace has at most 2^21 messages, each with a size and a time on the way
+//! below 2^64.
 
 /// The greatest time, in nanoseconds: 2^62.
 pub const MAX_TIME: u64 = 4_611_686_018_427_387_904;

@@ -1,7 +1,8 @@
 use crate::seq::Seq;
 
-/// The messages that one container sent another: their number, the sum of their sizes (bytes), the sum and the
-/// greatest of their times on the way (nanoseconds), and how many of them were received before they were sent.
+/// The messages that one container sent another: their number, the sum of their sizes (bytes), the sum and
+/// the greatest of their times on the way (nanoseconds), and how many of them were received before they were
+/// sent.
 #[derive(Clone, Copy, Debug, PartialEq, Eq)]
 pub struct MatrixRow {
     pub from: u32,

@@ -19,8 +19,8 @@ pub struct MemSink {
 impl MemSink {
     ghost use Rattle.trace_base.specs.MemSink.{bytes_held, fault_count};
 
-    /// An empty sink. A call takes no more than `step` bytes. The calls whose numbers, counted from 0, stand in `fails`
-    /// are faults, and so is one that finds no memory for its bytes.
+    /// An empty sink. A call takes no more than `step` bytes. The calls whose numbers, counted from 0, stand
+    /// in `fails` are faults, and so is one that finds no memory for its bytes.
     pub fn new(alloc: Global, step: usize, fails: Seq<u64>) -> MemSink
         requires { 1 ≤ step }
         ensures held { bytes_held result ≡ [] }

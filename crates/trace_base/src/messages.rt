@@ -14,8 +14,8 @@ pub struct LinkEvent {
     pub size: u64,
 }
 
-/// A message: the containers that sent and received it, by their places in the trace's list, counted from 0, when it was
-/// sent and received (nanoseconds), and its size (bytes).
+/// A message: the containers that sent and received it, by their places in the trace's list, counted from 0,
+/// when it was sent and received (nanoseconds), and its size (bytes).
 #[derive(Clone, Copy, Debug, PartialEq, Eq)]
 pub struct Message {
     pub from: u32,
@@ -25,8 +25,8 @@ pub struct Message {
     pub size: u64,
 }
 
-/// The messages of a trace, and the number of link events that have no partner. The messages stand by sender, then
-/// receiver, then the time they were sent, then the line of their start.
+/// The messages of a trace, and the number of link events that have no partner. The messages stand by sender,
+/// then receiver, then the time they were sent, then the line of their start.
 #[derive(Debug, Drop)]
 pub struct MsgTable {
     pub messages: Seq<Message>,

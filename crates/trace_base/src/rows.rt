@@ -15,12 +15,14 @@ pub fn stack_of_two_calls()
 /// The pieces of a recursive call.
 #[tactic(auto, unfolding(crate::specs::Stream::stack_after, crate::specs::Stream::pieces))]
 pub fn pieces_of_recursion()
-    ensures { pieces recursion ≡ record { from = 0; to = 0; stack = [] } ∷ record { from = 0; to = 2; stack = 1 ∷ [] }
+    ensures { pieces recursion ≡ record { from = 0; to = 0; stack = [] }
+        ∷ record { from = 0; to = 2; stack = 1 ∷ [] }
         ∷ record { from = 2; to = 4; stack = 1 ∷ 1 ∷ [] } ∷ record { from = 4; to = 10; stack = 1 ∷ [] }
         ∷ record { from = 10; to = 10; stack = [] } ∷ [] }
 {}
 
-/// The flat profile of main calling f, over all its time, over a part that cuts calls, and between two events.
+/// The flat profile of main calling f, over all its time, over a part that cuts calls, and between two
+/// events.
 #[tactic(auto, unfolding(crate::specs::Stream::stack_after, crate::specs::Stream::pieces, crate::specs::Flat::time_with, crate::specs::Flat::calls_in, crate::specs::Flat::row_of, crate::specs::Flat::greatest_function, crate::specs::Flat::flat))]
 pub fn flat_of_two_calls()
     ensures whole { flat (two_calls ∷ []) 0 500000000 ≡ record {
@@ -51,8 +53,8 @@ pub fn flat_of_two_calls()
     } }
 {}
 
-/// The flat profile of a recursive call counts its time once, and one of calls of no length has a row without time:
-/// the call at the interval's start counts, the call at its end doesn't.
+/// The flat profile of a recursive call counts its time once, and one of calls of no length has a row without
+/// time: the call at the interval's start counts, the call at its end doesn't.
 #[tactic(auto, unfolding(crate::specs::Stream::stack_after, crate::specs::Stream::pieces, crate::specs::Flat::time_with, crate::specs::Flat::calls_in, crate::specs::Flat::row_of, crate::specs::Flat::greatest_function, crate::specs::Flat::flat))]
 pub fn flat_of_short_calls()
     ensures recursion { flat (recursion ∷ []) 0 10 ≡ record {

@@ -1,5 +1,6 @@
 -- The ends of a session.
-use Rattle.std.proofs.Common.{◌≡◌, ◌≢◌, ℕ, Bool, List, [], ◌∷◌, ◌++◌, length, Option, None, Some, refl, sym, ap, ◌∙◌, subst, append_assoc}
+use Rattle.std.proofs.Common.{◌≡◌, ◌≢◌, ℕ, Bool, List, [], ◌∷◌, ◌++◌, length, Option, None, Some, refl, sym}
+use Rattle.std.proofs.Common.{ap, ◌∙◌, subst, append_assoc}
 use Rattle.std.proofs.lemmas.List.{append-nil}
 use Rattle.trace_base.specs.Outside.{Told}
 use Rattle.hall_trait.specs.History.{IsLegalHistory}
@@ -8,18 +9,23 @@ use Rattle.session_proto.specs.Reply.{reply_text}
 use Rattle.session_proto.specs.declared.reply.Reply.{Reply}
 use Rattle.request_reader.proofs.Cutting.{requests_of-append, requests_of-quit, requests_of-none}
 use Rattle.request_reader.specs.Incoming.{Spells, left_to_read}
-use Rattle.request_reader.specs.Requests.{WholeRequest, Put, Flat, Quit, Unreadable, Requests, Ending, AfterQuit, Between, Inside, requests_of, rest_only, onto, first_request}
+use Rattle.request_reader.specs.Requests.{WholeRequest, Put, Flat, Quit, Unreadable, Requests, Ending}
+use Rattle.request_reader.specs.Requests.{AfterQuit, Between, Inside, requests_of, rest_only, onto}
+use Rattle.request_reader.specs.Requests.{first_request}
 use Rattle.trace_session.specs.Output.{WritesFront}
 use Rattle.trace_session.specs.Served.{Served}
-use Rattle.trace_session.specs.Session.{IsSession, ReadsRequests, WritesReplies, Answers, LeavesNothing, requests_served}
+use Rattle.trace_session.specs.Session.{IsSession, ReadsRequests, WritesReplies, Answers, LeavesNothing}
+use Rattle.trace_session.specs.Session.{requests_served}
 use Rattle.trace_session.specs.Step.{Steps, TakesOne, TakesNone}
 use Rattle.trace_session.specs.declared.sessions.End.{End}
 use Rattle.trace_session.specs.declared.sessions.End.TheVariants as ends
-use Rattle.trace_session.proofs.Sofar.{Sofar, Done, Spell, HasRead, HasWritten, in_front, one_more, done_more, written_more, requests_more}
+use Rattle.trace_session.proofs.Sofar.{Sofar, Done, Spell, HasRead, HasWritten, in_front, one_more, done_more}
+use Rattle.trace_session.proofs.Sofar.{written_more, requests_more}
 use Rattle.trace_session.proofs.Telling.{told_then, told_as}
 
 -- what is left to read is what waits, and what is left in the source
-told_pending : (p : List ℕ) (P R : List ℕ → List ℕ → Type 0) (a src : Option (List ℕ)) → ((x y : List ℕ) → P x (p ++ y) → R x y) → Told a (left_to_read p src) P → Told a src R
+told_pending : (p : List ℕ) (P R : List ℕ → List ℕ → Type 0) (a src : Option (List ℕ))
+    → ((x y : List ℕ) → P x (p ++ y) → R x y) → Told a (left_to_read p src) P → Told a src R
 told_pending p P R (Some x) (Some y) f t = f x y t
 told_pending p P R (Some x) None f t = absurd t
 told_pending p P R None (Some y) f t = absurd t
@@ -27,24 +33,45 @@ told_pending p P R None None f t = tt
 
 -- what was read, and the bytes taken since
 abbrev pub HasTaken : List Served → (List ℕ → List ℕ → Type 0) → List ℕ → List ℕ → Type 0
-HasTaken served Q was is = (given bytes : List ℕ) × (was ≡ given ++ bytes ++ is) × Spell given (requests_served served) × Q bytes is
+HasTaken served Q was is = (given bytes : List ℕ) × (was ≡ given ++ bytes ++ is)
+    × Spell given (requests_served served) × Q bytes is
 
-taken_then : (served : List Served) (Q : List ℕ → List ℕ → Type 0) (a b c : Option (List ℕ)) → Told a b (HasRead served) → Told b c (λ was is. (bytes : List ℕ) × (was ≡ bytes ++ is) × Q bytes is) → Told a c (HasTaken served Q)
+taken_then : (served : List Served) (Q : List ℕ → List ℕ → Type 0) (a b c : Option (List ℕ))
+    → Told a b (HasRead served) → Told b c (λ was is. (bytes : List ℕ) × (was ≡ bytes ++ is) × Q bytes is)
+    → Told a c (HasTaken served Q)
 taken_then served Q a b c =
-    told_then (HasRead served) (λ was is. (bytes : List ℕ) × (was ≡ bytes ++ is) × Q bytes is) (HasTaken served Q) a b c
-    (λ x y z p q. (p.0, q.0, p.1 ∙ ap (λ (l : List ℕ). p.0 ++ l) q.1 ∙ sym (append_assoc p.0 q.0 z), p.2, q.2))
+    told_then (HasRead served) (λ was is. (bytes : List ℕ) × (was ≡ bytes ++ is) × Q bytes is)
+    (HasTaken served Q) a b c
+    (λ x y z p q. (
+      p.0,
+      q.0,
+      p.1 ∙ ap (λ (l : List ℕ). p.0 ++ l) q.1 ∙ sym (append_assoc p.0 q.0 z),
+      p.2,
+      q.2,
+    ))
 
 -- the source ended or failed, and nothing waits
-pub ended : (end : End) (Q : List ℕ → List ℕ → Type 0) (alone : Bool) (old now new : Seat) (limits mid limits' left midway src held written held' : Option (List ℕ)) (pending : List ℕ) → (s : Sofar alone old now limits mid left midway held written) → TakesNone now new mid limits' midway (left_to_read pending src) written held' Q → pending ≡ []
-    → ((given bytes is : List ℕ) → Spell given (requests_served s.served) → first_request bytes ≡ None → Q bytes is → Answers end (requests_of (given ++ bytes)) s.served)
+pub ended : (end : End) (Q : List ℕ → List ℕ → Type 0) (alone : Bool) (old now new : Seat)
+    (limits mid limits' left midway src held written held' : Option (List ℕ)) (pending : List ℕ)
+    → (s : Sofar alone old now limits mid left midway held written) → TakesNone now new mid limits' midway
+    (left_to_read pending src) written held' Q → pending ≡ []
+    → ((given bytes is : List ℕ) → Spell given (requests_served s.served) → first_request bytes ≡ None
+    → Q bytes is → Answers end (requests_of (given ++ bytes)) s.served)
     → ((bytes is : List ℕ) → Q bytes is → LeavesNothing end is)
-    → ((was is : List ℕ) → HasWritten s.served was is → WritesReplies end was is s.served) → IsLegalHistory new.seen → IsSession alone old new limits limits' left src held held' end
-ended end Q alone old now new limits mid limits' left midway src held written held' pending s t none answers leaves writes legal =
+    → ((was is : List ℕ) → HasWritten s.served was is → WritesReplies end was is s.served)
+    → IsLegalHistory new.seen → IsSession alone old new limits limits' left src held held' end
+ended end Q alone old now new limits mid limits' left midway src held written held' pending s t none answers
+    leaves writes legal =
     let seat = subst (λ (n : Seat). Done alone old n limits mid s.served) (sym t.seat) s.done in
     let d = subst (λ (l : Option (List ℕ)). Done alone old new limits l s.served) (sym t.limits_same) seat in
     let out = subst (λ (h : Option (List ℕ)). Told held h (HasWritten s.served)) (sym t.held_same) s.output in
-    let took = subst (λ (p : List ℕ). Told midway (left_to_read p src) (λ was is. (bytes : List ℕ) × (was ≡ bytes ++ is) × (first_request bytes ≡ None) × Q bytes is)) none t.taken in
-    let joined = taken_then s.served (λ bytes is. (first_request bytes ≡ None) × Q bytes is) left midway (left_to_read [] src) s.input (told_as (λ was is. (bytes : List ℕ) × (was ≡ bytes ++ is) × (first_request bytes ≡ None) × Q bytes is) (λ was is. (bytes : List ℕ) × (was ≡ bytes ++ is) × ((first_request bytes ≡ None) × Q bytes is)) midway (left_to_read [] src) (λ x y p. (p.0, p.1, (p.2, p.3))) took) in
+    let took = subst (λ (p : List ℕ). Told midway (left_to_read p src) (λ was is. (bytes : List ℕ)
+    × (was ≡ bytes ++ is) × (first_request bytes ≡ None) × Q bytes is)) none t.taken in
+    let joined = taken_then s.served (λ bytes is. (first_request bytes ≡ None) × Q bytes is) left midway
+    (left_to_read [] src) s.input (told_as (λ was is. (bytes : List ℕ) × (was ≡ bytes ++ is)
+    × (first_request bytes ≡ None) × Q bytes is) (λ was is. (bytes : List ℕ) × (was ≡ bytes ++ is)
+    × ((first_request bytes ≡ None) × Q bytes is)) midway (left_to_read [] src)
+    (λ x y p. (p.0, p.1, (p.2, p.3))) took) in
     record {
       served = s.served;
       each = d.each;
@@ -55,33 +82,46 @@ ended end Q alone old now new limits mid limits' left midway src held written he
       lone = d.lone;
       rest = d.rest;
       records = d.records;
-      input = told_pending [] (HasTaken s.served (λ bytes is. (first_request bytes ≡ None) × Q bytes is)) (λ was is. ReadsRequests end was is s.served) left src
+      input = told_pending [] (HasTaken s.served (λ bytes is. (first_request bytes ≡ None) × Q bytes is))
+          (λ was is. ReadsRequests end was is s.served) left src
           (λ x y p. (p.0 ++ p.1, p.2, answers p.0 p.1 y p.3 p.4.0 p.4.1, leaves p.1 y p.4.1)) joined;
-      output = told_as (HasWritten s.served) (λ was is. WritesReplies end was is s.served) held held' writes out;
+      output = told_as (HasWritten s.served) (λ was is. WritesReplies end was is s.served) held held' writes
+          out;
     }
 
 -- the requests of bytes that hold no whole one behind others
-rest_answers : (served : List Served) (given bytes : List ℕ) → Spell given (requests_served served) → first_request bytes ≡ None → requests_of (given ++ bytes) ≡ in_front (requests_served served) (rest_only bytes)
-rest_answers served given bytes spell none = spell bytes ∙ ap (in_front (requests_served served)) (requests_of-none bytes none)
+rest_answers : (served : List Served) (given bytes : List ℕ) → Spell given (requests_served served)
+    → first_request bytes ≡ None → requests_of (given ++ bytes) ≡ in_front (requests_served served)
+    (rest_only bytes)
+rest_answers served given bytes spell none = spell bytes ∙ ap (in_front (requests_served served))
+    (requests_of-none bytes none)
 
 -- none behind them
-none_behind : (rs : List WholeRequest) (ending : Ending) → in_front rs (record { all = []; ending = ending }) ≡ record { all = rs; ending = ending }
+none_behind : (rs : List WholeRequest) (ending : Ending) → in_front rs (record { all = []; ending = ending })
+    ≡ record { all = rs; ending = ending }
 none_behind rs ending = ap (λ (l : List WholeRequest). made l) (append-nil rs)
   where
     made : List WholeRequest → Requests
     made l = record { all = l; ending = ending }
 
-pub eof_answers : (served : List Served) (given bytes is : List ℕ) → Spell given (requests_served served) → first_request bytes ≡ None → (bytes ≡ []) × (is ≡ []) → Answers ends.Eof (requests_of (given ++ bytes)) served
+pub eof_answers : (served : List Served) (given bytes is : List ℕ) → Spell given (requests_served served)
+    → first_request bytes ≡ None → (bytes ≡ []) × (is ≡ []) → Answers ends.Eof (requests_of (given ++ bytes))
+    served
 eof_answers served given bytes is spell none q =
-    rest_answers served given bytes spell none ∙ ap (λ (b : List ℕ). in_front (requests_served served) (rest_only b)) q.0 ∙ none_behind (requests_served served) Between
+    rest_answers served given bytes spell none ∙ ap
+    (λ (b : List ℕ). in_front (requests_served served) (rest_only b)) q.0 ∙ none_behind
+    (requests_served served) Between
 
 rest_inside : (bytes : List ℕ) → bytes ≢ [] → rest_only bytes ≡ record { all = []; ending = Inside }
 rest_inside [] some = absurd (some refl)
 rest_inside (b ∷ bs) some = refl
 
-pub cut_answers : (served : List Served) (given bytes is : List ℕ) → Spell given (requests_served served) → first_request bytes ≡ None → (bytes ≢ []) × (is ≡ []) → Answers ends.Cut (requests_of (given ++ bytes)) served
+pub cut_answers : (served : List Served) (given bytes is : List ℕ) → Spell given (requests_served served)
+    → first_request bytes ≡ None → (bytes ≢ []) × (is ≡ []) → Answers ends.Cut (requests_of (given ++ bytes))
+    served
 cut_answers served given bytes is spell none q =
-    rest_answers served given bytes spell none ∙ ap (in_front (requests_served served)) (rest_inside bytes q.0) ∙ none_behind (requests_served served) Inside
+    rest_answers served given bytes spell none ∙ ap (in_front (requests_served served))
+    (rest_inside bytes q.0) ∙ none_behind (requests_served served) Inside
 
 rest_all : (bytes : List ℕ) → (rest_only bytes).all ≡ []
 rest_all [] = refl
@@ -91,22 +131,34 @@ rest_open : (bytes : List ℕ) → (rest_only bytes).ending ≢ AfterQuit
 rest_open [] is = absurd (cc)
 rest_open (b ∷ bs) is = absurd (cc)
 
-pub failed_answers : (served : List Served) (given bytes is : List ℕ) → Spell given (requests_served served) → first_request bytes ≡ None → Unit {0} → Answers ends.ReadFault (requests_of (given ++ bytes)) served
+pub failed_answers : (served : List Served) (given bytes is : List ℕ) → Spell given (requests_served served)
+    → first_request bytes ≡ None → Unit {0} → Answers ends.ReadFault (requests_of (given ++ bytes)) served
 failed_answers served given bytes is spell none q =
     let same = rest_answers served given bytes spell none in (
-      ap (λ (r : Requests). r.all) same ∙ ap (λ (l : List WholeRequest). requests_served served ++ l) (rest_all bytes) ∙ append-nil (requests_served served),
+      ap (λ (r : Requests). r.all) same ∙ ap (λ (l : List WholeRequest). requests_served served ++ l)
+          (rest_all bytes) ∙ append-nil (requests_served served),
       λ closed. rest_open bytes (sym (ap (λ (r : Requests). r.ending) same) ∙ closed),
     )
 
 -- a request was the last
-pub one_ended : (end : End) (alone : Bool) (old now new : Seat) (limits mid limits' left midway src held written held' : Option (List ℕ)) (pending : List ℕ) → (s : Sofar alone old now limits mid left midway held written) → (t : TakesOne alone now new mid limits' midway (left_to_read pending src) written held' (Some end))
-    → ((given bytes : List ℕ) → Spell given (requests_served s.served) → Spells bytes t.request → Answers end (requests_of (given ++ bytes ++ pending)) (one_more s.served t.request (length now.seen) t.answers.serves.block t.answers.reply))
+pub one_ended : (end : End) (alone : Bool) (old now new : Seat)
+    (limits mid limits' left midway src held written held' : Option (List ℕ)) (pending : List ℕ)
+    → (s : Sofar alone old now limits mid left midway held written)
+    → (t : TakesOne alone now new mid limits' midway (left_to_read pending src) written held' (Some end))
+    → ((given bytes : List ℕ) → Spell given (requests_served s.served) → Spells bytes t.request
+    → Answers end (requests_of (given ++ bytes ++ pending))
+    (one_more s.served t.request (length now.seen) t.answers.serves.block t.answers.reply))
     → ((is : List ℕ) → LeavesNothing end is)
-    → Told held held' (λ was is. WritesReplies end was is (one_more s.served t.request (length now.seen) t.answers.serves.block t.answers.reply)) → IsLegalHistory new.seen → IsSession alone old new limits limits' left src held held' end
-one_ended end alone old now new limits mid limits' left midway src held written held' pending s t answers leaves writes legal =
+    → Told held held' (λ was is. WritesReplies end was is
+    (one_more s.served t.request (length now.seen) t.answers.serves.block t.answers.reply))
+    → IsLegalHistory new.seen → IsSession alone old new limits limits' left src held held' end
+one_ended end alone old now new limits mid limits' left midway src held written held' pending s t answers
+    leaves writes legal =
     let x = one_more s.served t.request (length now.seen) t.answers.serves.block t.answers.reply in
-    let d = done_more alone old now new limits mid limits' s.served t.request t.answers.reply s.done t.answers.serves in
-    let joined = taken_then s.served (λ bytes is. Spells bytes t.request) left midway (left_to_read pending src) s.input t.taken in
+    let d = done_more alone old now new limits mid limits' s.served t.request t.answers.reply s.done
+    t.answers.serves in
+    let joined = taken_then s.served (λ bytes is. Spells bytes t.request) left midway
+    (left_to_read pending src) s.input t.taken in
     record {
       served = x;
       each = d.each;
@@ -117,16 +169,27 @@ one_ended end alone old now new limits mid limits' left midway src held written 
       lone = d.lone;
       rest = d.rest;
       records = d.records;
-      input = told_pending pending (HasTaken s.served (λ bytes is. Spells bytes t.request)) (λ was is. ReadsRequests end was is x) left src
-          (λ a b p. ((p.0 ++ p.1) ++ pending, p.2 ∙ sym (append_assoc (p.0 ++ p.1) pending b), answers p.0 p.1 p.3 p.4, leaves b)) joined;
+      input = told_pending pending (HasTaken s.served (λ bytes is. Spells bytes t.request))
+          (λ was is. ReadsRequests end was is x) left src
+          (λ a b p. (
+            (p.0 ++ p.1) ++ pending,
+            p.2 ∙ sym (append_assoc (p.0 ++ p.1) pending b),
+            answers p.0 p.1 p.3 p.4,
+            leaves b,
+          )) joined;
       output = writes;
     }
 
-pub quit_answers : (served : List Served) (request : WholeRequest) (before : ℕ) (block : List ℕ) (r : Reply) (given bytes pending : List ℕ) → request ≡ Quit → Spell given (requests_served served) → Spells bytes request → Answers ends.Quit (requests_of (given ++ bytes ++ pending)) (one_more served request before block r)
+pub quit_answers : (served : List Served) (request : WholeRequest) (before : ℕ) (block : List ℕ) (r : Reply)
+    (given bytes pending : List ℕ) → request ≡ Quit → Spell given (requests_served served)
+    → Spells bytes request → Answers ends.Quit (requests_of (given ++ bytes ++ pending))
+    (one_more served request before block r)
 quit_answers served request before block r given bytes pending is spell spells =
     let quits : Spells bytes Quit = subst (λ (q : WholeRequest). Spells bytes q) is spells in
-    ap requests_of (append_assoc given bytes pending) ∙ spell (bytes ++ pending) ∙ ap (in_front (requests_served served)) (requests_of-quit bytes pending quits)
-    ∙ ap (λ (l : List WholeRequest). made l) (ap (λ (q : WholeRequest). requests_served served ++ q ∷ []) (sym is) ∙ sym (requests_more served request before block r))
+    ap requests_of (append_assoc given bytes pending) ∙ spell (bytes ++ pending) ∙ ap
+    (in_front (requests_served served)) (requests_of-quit bytes pending quits)
+    ∙ ap (λ (l : List WholeRequest). made l) (ap (λ (q : WholeRequest). requests_served served ++ q ∷ [])
+    (sym is) ∙ sym (requests_more served request before block r))
   where
     made : List WholeRequest → Requests
     made l = record { all = l; ending = AfterQuit }
@@ -137,32 +200,64 @@ onto_begins (Flat id a b) behind = (behind.all, refl)
 onto_begins Quit behind = ([], refl)
 onto_begins Unreadable behind = (behind.all, refl)
 
-pub fault_answers : (served : List Served) (request : WholeRequest) (before : ℕ) (block : List ℕ) (r : Reply) (given bytes pending : List ℕ) → Spell given (requests_served served) → Spells bytes request → Answers ends.WriteFault (requests_of (given ++ bytes ++ pending)) (one_more served request before block r)
+pub fault_answers : (served : List Served) (request : WholeRequest) (before : ℕ) (block : List ℕ) (r : Reply)
+    (given bytes pending : List ℕ) → Spell given (requests_served served) → Spells bytes request
+    → Answers ends.WriteFault (requests_of (given ++ bytes ++ pending))
+    (one_more served request before block r)
 fault_answers served request before block r given bytes pending spell spells =
-    let same = ap requests_of (append_assoc given bytes pending) ∙ spell (bytes ++ pending) ∙ ap (in_front (requests_served served)) (requests_of-append bytes pending request spells) in
-    let b = onto_begins request (requests_of pending) in
-    (b.0, ap (λ (q : Requests). q.all) same ∙ ap (λ (l : List WholeRequest). requests_served served ++ l) b.1 ∙ sym (append_assoc (requests_served served) (request ∷ []) b.0) ∙ ap (λ (l : List WholeRequest). l ++ b.0) (sym (requests_more served request before block r)))
+    let same = ap requests_of (append_assoc given bytes pending) ∙ spell (bytes ++ pending) ∙ ap
+    (in_front (requests_served served)) (requests_of-append bytes pending request spells) in
+    let b = onto_begins request (requests_of pending) in (
+      b.0,
+      ap (λ (q : Requests). q.all) same ∙ ap (λ (l : List WholeRequest). requests_served served ++ l) b.1
+          ∙ sym (append_assoc (requests_served served) (request ∷ []) b.0) ∙ ap (λ (l : List WholeRequest). l
+          ++ b.0) (sym (requests_more served request before block r)),
+    )
 
-pub fault_writes : (served : List Served) (request : WholeRequest) (before : ℕ) (block : List ℕ) (r : Reply) (a b c : Option (List ℕ)) → Told a b (HasWritten served) → Told b c (λ was is. WritesFront (reply_text r) was is) → Told a c (λ was is. WritesReplies ends.WriteFault was is (one_more served request before block r))
+pub fault_writes : (served : List Served) (request : WholeRequest) (before : ℕ) (block : List ℕ) (r : Reply)
+    (a b c : Option (List ℕ)) → Told a b (HasWritten served)
+    → Told b c (λ was is. WritesFront (reply_text r) was is)
+    → Told a c (λ was is. WritesReplies ends.WriteFault was is (one_more served request before block r))
 fault_writes served request before block r a b c =
-    told_then (HasWritten served) (λ was is. WritesFront (reply_text r) was is) (λ was is. WritesReplies ends.WriteFault was is (one_more served request before block r)) a b c
-    (λ x y z p q. (served, (record { request = request; before = before; block = block; reply = r }), refl, subst (λ (l : List ℕ). WritesFront (reply_text r) l z) p q))
+    told_then (HasWritten served) (λ was is. WritesFront (reply_text r) was is)
+    (λ was is. WritesReplies ends.WriteFault was is (one_more served request before block r)) a b c
+    (λ x y z p q. (
+      served,
+      (record { request = request; before = before; block = block; reply = r }),
+      refl,
+      subst (λ (l : List ℕ). WritesFront (reply_text r) l z) p q,
+    ))
 
 -- a step that ends the session
-pub step_ends : (end : End) (alone : Bool) (old now new : Seat) (limits mid limits' left midway src held written held' : Option (List ℕ)) (pending : List ℕ) → Sofar alone old now limits mid left midway held written → Steps alone now new mid limits' midway (left_to_read pending src) written held' pending (Some end) → IsLegalHistory new.seen → IsSession alone old new limits limits' left src held held' end
-step_ends ends.Quit alone old now new limits mid limits' left midway src held written held' pending s t legal =
+pub step_ends : (end : End) (alone : Bool) (old now new : Seat)
+    (limits mid limits' left midway src held written held' : Option (List ℕ)) (pending : List ℕ)
+    → Sofar alone old now limits mid left midway held written → Steps alone now new mid limits' midway
+    (left_to_read pending src) written held' pending (Some end) → IsLegalHistory new.seen
+    → IsSession alone old new limits limits' left src held held' end
+step_ends ends.Quit alone old now new limits mid limits' left midway src held written held' pending s t
+    legal =
     one_ended ends.Quit alone old now new limits mid limits' left midway src held written held' pending s t.0
-    (λ given bytes. quit_answers s.served t.0.request (length now.seen) t.0.answers.serves.block t.0.answers.reply given bytes pending t.1)
+    (λ given bytes. quit_answers s.served t.0.request (length now.seen) t.0.answers.serves.block
+    t.0.answers.reply given bytes pending t.1)
     (λ is. tt)
-    (written_more s.served t.0.request (length now.seen) t.0.answers.serves.block t.0.answers.reply held written held' s.output t.0.answers.written) legal
-step_ends ends.WriteFault alone old now new limits mid limits' left midway src held written held' pending s t legal =
-    one_ended ends.WriteFault alone old now new limits mid limits' left midway src held written held' pending s t
-    (λ given bytes. fault_answers s.served t.request (length now.seen) t.answers.serves.block t.answers.reply given bytes pending)
+    (written_more s.served t.0.request (length now.seen) t.0.answers.serves.block t.0.answers.reply held
+    written held' s.output t.0.answers.written) legal
+step_ends ends.WriteFault alone old now new limits mid limits' left midway src held written held' pending s t
+    legal =
+    one_ended ends.WriteFault alone old now new limits mid limits' left midway src held written held' pending
+    s t
+    (λ given bytes. fault_answers s.served t.request (length now.seen) t.answers.serves.block t.answers.reply
+    given bytes pending)
     (λ is. tt)
-    (fault_writes s.served t.request (length now.seen) t.answers.serves.block t.answers.reply held written held' s.output t.answers.written) legal
+    (fault_writes s.served t.request (length now.seen) t.answers.serves.block t.answers.reply held written
+    held' s.output t.answers.written) legal
 step_ends ends.Eof alone old now new limits mid limits' left midway src held written held' pending s t legal =
-    ended ends.Eof (λ bytes is. (bytes ≡ []) × (is ≡ [])) alone old now new limits mid limits' left midway src held written held' pending s t.0 t.1 (eof_answers s.served) (λ bytes is q. q.1) (λ was is w. w) legal
+    ended ends.Eof (λ bytes is. (bytes ≡ []) × (is ≡ [])) alone old now new limits mid limits' left midway src
+    held written held' pending s t.0 t.1 (eof_answers s.served) (λ bytes is q. q.1) (λ was is w. w) legal
 step_ends ends.Cut alone old now new limits mid limits' left midway src held written held' pending s t legal =
-    ended ends.Cut (λ bytes is. (bytes ≢ []) × (is ≡ [])) alone old now new limits mid limits' left midway src held written held' pending s t.0 t.1 (cut_answers s.served) (λ bytes is q. q.1) (λ was is w. w) legal
-step_ends ends.ReadFault alone old now new limits mid limits' left midway src held written held' pending s t legal =
-    ended ends.ReadFault (λ bytes is. Unit {0}) alone old now new limits mid limits' left midway src held written held' pending s t.0 t.1 (failed_answers s.served) (λ bytes is q. tt) (λ was is w. w) legal
+    ended ends.Cut (λ bytes is. (bytes ≢ []) × (is ≡ [])) alone old now new limits mid limits' left midway src
+    held written held' pending s t.0 t.1 (cut_answers s.served) (λ bytes is q. q.1) (λ was is w. w) legal
+step_ends ends.ReadFault alone old now new limits mid limits' left midway src held written held' pending s t
+    legal =
+    ended ends.ReadFault (λ bytes is. Unit {0}) alone old now new limits mid limits' left midway src held
+    written held' pending s t.0 t.1 (failed_answers s.served) (λ bytes is q. tt) (λ was is w. w) legal

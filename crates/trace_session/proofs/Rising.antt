@@ -13,11 +13,15 @@ Rise-push n m [] k r below = (omega (arith, r, below), omega arith)
 Rise-push n m (j ∷ js) k r below = (r.0, Rise-push j m js k r.1 below)
 
 -- two blocks, one behind the other
-pub Rise-append : (n m o : ℕ) (block block' : List ℕ) → Rise n block m → Rise m block' o → Rise n (block ++ block') o
+pub Rise-append : (n m o : ℕ) (block block' : List ℕ) → Rise n block m → Rise m block' o
+    → Rise n (block ++ block') o
 Rise-append n m o [] block' r s = Rise-from n m block' o r s
 Rise-append n m o (k ∷ ks) block' r s = (r.0, Rise-append k m o ks block' r.1 s)
 
 -- one request more
-pub ComeInOrder-push : (n m o : ℕ) (served : List Served) (x : Served) → ComeInOrder n served m → x.before ≡ m → Rise m x.block o → ComeInOrder n (served ++ x ∷ []) o
-ComeInOrder-push n m o [] x order is r = (is ∙ sym order, o, subst (λ (k : ℕ). Rise k x.block o) (sym order) r, refl)
-ComeInOrder-push n m o (y ∷ ys) x order is r = (order.0, order.1, order.2, ComeInOrder-push order.1 m o ys x order.3 is r)
+pub ComeInOrder-push : (n m o : ℕ) (served : List Served) (x : Served) → ComeInOrder n served m → x.before ≡ m
+    → Rise m x.block o → ComeInOrder n (served ++ x ∷ []) o
+ComeInOrder-push n m o [] x order is r =
+    (is ∙ sym order, o, subst (λ (k : ℕ). Rise k x.block o) (sym order) r, refl)
+ComeInOrder-push n m o (y ∷ ys) x order is r =
+    (order.0, order.1, order.2, ComeInOrder-push order.1 m o ys x order.3 is r)

@@ -1,5 +1,6 @@
 -- A session under way.
-use Rattle.std.proofs.Common.{◌≡◌, ◌≢◌, ℕ, ◌+◌, Bool, List, [], ◌∷◌, ◌++◌, length, Option, None, Some, option_to_list, refl, sym, ap, ◌∙◌, subst, append_assoc, arith, length-append}
+use Rattle.std.proofs.Common.{◌≡◌, ◌≢◌, ℕ, ◌+◌, Bool, List, [], ◌∷◌, ◌++◌, length, Option, None, Some}
+use Rattle.std.proofs.Common.{option_to_list, refl, sym, ap, ◌∙◌, subst, append_assoc, arith, length-append}
 use Rattle.std.proofs.lemmas.Grind.{flat_map-append}
 use Rattle.std.proofs.lemmas.List.{append-nil, map-append}
 use Rattle.std.proofs.lemmas.List.Elements.{filter_map-append}
@@ -12,7 +13,8 @@ use Rattle.session_proto.specs.Reply.{reply_text}
 use Rattle.session_proto.specs.declared.reply.Reply.{Reply}
 use Rattle.request_reader.proofs.Cutting.{requests_of-append}
 use Rattle.request_reader.specs.Incoming.{Spells, Takes, left_to_read}
-use Rattle.request_reader.specs.Requests.{WholeRequest, Put, Flat, Quit, Unreadable, Requests, Ending, requests_of, onto}
+use Rattle.request_reader.specs.Requests.{WholeRequest, Put, Flat, Quit, Unreadable, Requests, Ending}
+use Rattle.request_reader.specs.Requests.{requests_of, onto}
 use Rattle.trace_session.specs.Served.{Served, IsServed, blocks_of, output_of, spent_numbers, spent_number}
 use Rattle.trace_session.specs.Serving.{Serves}
 use Rattle.trace_session.specs.Session.{ComeInOrder, requests_served}
@@ -23,7 +25,8 @@ use Rattle.trace_session.proofs.Rising.{ComeInOrder-push}
 use Rattle.trace_session.proofs.Telling.{told_then, told_same}
 
 -- what was served, apart from what was read and written
-pub record Done (alone : Bool) (old now : Seat) (limits limits' : Option (List ℕ)) (served : List Served) : Type 0 where
+pub record Done (alone : Bool) (old now : Seat) (limits limits' : Option (List ℕ)) (served : List Served) :
+    Type 0 where
   pub each : AllByRecursion (IsServed alone now.seen) served
   pub seen : Begins old.seen now.seen
   pub order : ComeInOrder (length old.seen) served (length now.seen)
@@ -48,7 +51,8 @@ abbrev pub HasWritten : List Served → List ℕ → List ℕ → Type 0
 HasWritten served was is = is ≡ was ++ output_of served
 
 -- These requests were served, and all of their replies written. `left'` is what is left to read.
-pub record Sofar (alone : Bool) (old now : Seat) (limits limits' left left' held held' : Option (List ℕ)) : Type 0 where
+pub record Sofar (alone : Bool) (old now : Seat) (limits limits' left left' held held' : Option (List ℕ)) :
+    Type 0 where
   pub served : List Served
   pub done : Done alone old now limits limits' served
   pub input : Told left left' (HasRead served)
@@ -56,45 +60,78 @@ pub record Sofar (alone : Bool) (old now : Seat) (limits limits' left left' held
 
 -- one request more
 abbrev pub one_more : List Served → WholeRequest → ℕ → List ℕ → Reply → List Served
-one_more served request before block r = served ++ (record { request = request; before = before; block = block; reply = r }) ∷ []
+one_more served request before block r = served
+    ++ (record { request = request; before = before; block = block; reply = r }) ∷ []
 
 one_number : (r : Reply) (o : Option ℕ) → spent_number r ≡ o → cons_option o [] ≡ option_to_list o
 one_number r None is = refl
 one_number r (Some n) is = refl
 
-numbers_more : (served : List Served) (request : WholeRequest) (before : ℕ) (block : List ℕ) (r : Reply) → spent_numbers (one_more served request before block r) ≡ spent_numbers served ++ option_to_list (spent_number r)
+numbers_more : (served : List Served) (request : WholeRequest) (before : ℕ) (block : List ℕ) (r : Reply)
+    → spent_numbers (one_more served request before block r) ≡ spent_numbers served
+    ++ option_to_list (spent_number r)
 numbers_more served request before block r =
-    filter_map-append (λ (x : Served). spent_number x.reply) served ((record { request = request; before = before; block = block; reply = r }) ∷ [])
+    filter_map-append (λ (x : Served). spent_number x.reply) served
+    ((record { request = request; before = before; block = block; reply = r }) ∷ [])
     ∙ ap (λ (l : List ℕ). spent_numbers served ++ l) (one_number r (spent_number r) refl)
 
-pub done_more : (alone : Bool) (old now new : Seat) (limits mid limits' : Option (List ℕ)) (served : List Served) (request : WholeRequest) (r : Reply) → Done alone old now limits mid served → (s : Serves alone now new mid limits' request r) → Done alone old new limits limits' (one_more served request (length now.seen) s.block r)
+pub done_more : (alone : Bool) (old now new : Seat) (limits mid limits' : Option (List ℕ))
+    (served : List Served) (request : WholeRequest) (r : Reply) → Done alone old now limits mid served
+    → (s : Serves alone now new mid limits' request r)
+    → Done alone old new limits limits' (one_more served request (length now.seen) s.block r)
 done_more alone old now new limits mid limits' served request r d s =
     let x : Served = record { request = request; before = length now.seen; block = s.block; reply = r } in
-    let blocks : blocks_of (served ++ x ∷ []) ≡ blocks_of served ++ s.block = flat_map-append (λ (y : Served). y.block) served (x ∷ []) ∙ ap (λ (l : List ℕ). blocks_of served ++ l) (append-nil s.block) in
-    let later = subst (λ (h : List Entry). AllByRecursion (IsServed alone h) served) (sym s.grows.seen.1) (all_later alone now.seen s.grows.seen.0 served d.each) in
+    let blocks : blocks_of (served ++ x ∷ []) ≡ blocks_of served
+    ++ s.block = flat_map-append (λ (y : Served). y.block) served (x ∷ []) ∙ ap
+    (λ (l : List ℕ). blocks_of served ++ l) (append-nil s.block) in
+    let later = subst (λ (h : List Entry). AllByRecursion (IsServed alone h) served) (sym s.grows.seen.1)
+    (all_later alone now.seen s.grows.seen.0 served d.each) in
     record {
       each = all_push (IsServed alone new.seen) served x later (s.entries, s.grows.at, s.answered);
       seen = Begins-trans old.seen now.seen new.seen d.seen s.grows.seen;
-      order = ComeInOrder-push (length old.seen) (length now.seen) (length new.seen) served x d.order refl s.grows.rises;
-      places = s.grows.places ∙ ap (λ (l : List ℕ). l ++ s.block) d.places ∙ append_assoc old.places (blocks_of served) s.block
+      order = ComeInOrder-push (length old.seen) (length now.seen) (length new.seen) served x d.order refl
+          s.grows.rises;
+      places = s.grows.places ∙ ap (λ (l : List ℕ). l ++ s.block) d.places ∙ append_assoc old.places
+          (blocks_of served) s.block
           ∙ ap (λ (l : List ℕ). old.places ++ l) (sym blocks);
-      lone = OnTrue-both alone (λ (had : length now.seen ≡ length old.seen + length (blocks_of served)) (own : new.seen ≡ now.seen ++ s.entries).
-          omega (arith, had, ap length own, length-append now.seen s.entries, AreAt-length new.seen s.block s.entries s.grows.at, ap length blocks, length-append (blocks_of served) s.block)) d.lone s.grows.lone;
+      lone = OnTrue-both alone (λ (had : length now.seen ≡ length old.seen + length (blocks_of served))
+          (own : new.seen ≡ now.seen ++ s.entries).
+          omega (
+            arith,
+            had,
+            ap length own,
+            length-append now.seen s.entries,
+            AreAt-length new.seen s.block
+                s.entries s.grows.at,
+            ap length blocks,
+            length-append (blocks_of served) s.block,
+          )) d.lone
+          s.grows.lone;
       rest = s.rest;
-      records = told_then (λ was is. is ≡ was ++ spent_numbers served) (λ was is. is ≡ was ++ option_to_list (spent_number r)) (λ was is. is ≡ was ++ spent_numbers (one_more served request (length now.seen) s.block r)) limits mid limits'
-          (λ a b c p q. q ∙ ap (λ (l : List ℕ). l ++ option_to_list (spent_number r)) p ∙ append_assoc a (spent_numbers served) (option_to_list (spent_number r)) ∙ ap (λ (l : List ℕ). a ++ l) (sym (numbers_more served request (length now.seen) s.block r))) d.records s.records;
+      records = told_then (λ was is. is ≡ was ++ spent_numbers served) (λ was is. is ≡ was
+          ++ option_to_list (spent_number r)) (λ was is. is ≡ was
+          ++ spent_numbers (one_more served request (length now.seen) s.block r)) limits mid limits'
+          (λ a b c p q. q ∙ ap (λ (l : List ℕ). l ++ option_to_list (spent_number r)) p ∙ append_assoc a
+          (spent_numbers served) (option_to_list (spent_number r)) ∙ ap (λ (l : List ℕ). a ++ l)
+          (sym (numbers_more served request (length now.seen) s.block r))) d.records s.records;
     }
 
 -- the texts of one reply more
-pub output_more : (served : List Served) (request : WholeRequest) (before : ℕ) (block : List ℕ) (r : Reply) → output_of (one_more served request before block r) ≡ output_of served ++ reply_text r
+pub output_more : (served : List Served) (request : WholeRequest) (before : ℕ) (block : List ℕ) (r : Reply)
+    → output_of (one_more served request before block r) ≡ output_of served ++ reply_text r
 output_more served request before block r =
-    flat_map-append (λ (y : Served). reply_text y.reply) served ((record { request = request; before = before; block = block; reply = r }) ∷ [])
+    flat_map-append (λ (y : Served). reply_text y.reply) served
+    ((record { request = request; before = before; block = block; reply = r }) ∷ [])
     ∙ ap (λ (l : List ℕ). output_of served ++ l) (append-nil (reply_text r))
 
-pub written_more : (served : List Served) (request : WholeRequest) (before : ℕ) (block : List ℕ) (r : Reply) (a b c : Option (List ℕ)) → Told a b (HasWritten served) → Told b c (λ was is. is ≡ was ++ reply_text r) → Told a c (HasWritten (one_more served request before block r))
+pub written_more : (served : List Served) (request : WholeRequest) (before : ℕ) (block : List ℕ) (r : Reply)
+    (a b c : Option (List ℕ)) → Told a b (HasWritten served) → Told b c (λ was is. is ≡ was ++ reply_text r)
+    → Told a c (HasWritten (one_more served request before block r))
 written_more served request before block r a b c =
-    told_then (HasWritten served) (λ was is. is ≡ was ++ reply_text r) (HasWritten (one_more served request before block r)) a b c
-    (λ x y z p q. q ∙ ap (λ (l : List ℕ). l ++ reply_text r) p ∙ append_assoc x (output_of served) (reply_text r) ∙ ap (λ (l : List ℕ). x ++ l) (sym (output_more served request before block r)))
+    told_then (HasWritten served) (λ was is. is ≡ was ++ reply_text r)
+    (HasWritten (one_more served request before block r)) a b c
+    (λ x y z p q. q ∙ ap (λ (l : List ℕ). l ++ reply_text r) p ∙ append_assoc x (output_of served)
+    (reply_text r) ∙ ap (λ (l : List ℕ). x ++ l) (sym (output_more served request before block r)))
 
 -- a request that isn't QUIT stands in front of those behind it
 onto_front : (r : WholeRequest) (behind : Requests) → r ≢ Quit → onto r behind ≡ in_front (r ∷ []) behind
@@ -103,37 +140,55 @@ onto_front (Flat id a b) behind no_quit = refl
 onto_front Quit behind no_quit = absurd (no_quit refl)
 onto_front Unreadable behind no_quit = refl
 
-pub requests_more : (served : List Served) (request : WholeRequest) (before : ℕ) (block : List ℕ) (r : Reply) → requests_served (one_more served request before block r) ≡ requests_served served ++ request ∷ []
-requests_more served request before block r = map-append (λ (x : Served). x.request) served ((record { request = request; before = before; block = block; reply = r }) ∷ [])
+pub requests_more : (served : List Served) (request : WholeRequest) (before : ℕ) (block : List ℕ) (r : Reply)
+    → requests_served (one_more served request before block r) ≡ requests_served served ++ request ∷ []
+requests_more served request before block r = map-append (λ (x : Served). x.request) served
+    ((record { request = request; before = before; block = block; reply = r }) ∷ [])
 
-spell_more : (given taken : List ℕ) (rs : List WholeRequest) (r : WholeRequest) → r ≢ Quit → Spell given rs → Spells taken r → Spell (given ++ taken) (rs ++ r ∷ [])
+spell_more : (given taken : List ℕ) (rs : List WholeRequest) (r : WholeRequest) → r ≢ Quit → Spell given rs
+    → Spells taken r → Spell (given ++ taken) (rs ++ r ∷ [])
 spell_more given taken rs r no_quit front spells = λ more.
-    ap requests_of (append_assoc given taken more) ∙ front (taken ++ more) ∙ ap (in_front rs) (requests_of-append taken more r spells ∙ onto_front r (requests_of more) no_quit)
-    ∙ ap (λ (l : List WholeRequest). record_of l (requests_of more).ending) (sym (append_assoc rs (r ∷ []) (requests_of more).all))
+    ap requests_of (append_assoc given taken more) ∙ front (taken ++ more) ∙ ap (in_front rs)
+    (requests_of-append taken more r spells ∙ onto_front r (requests_of more) no_quit)
+    ∙ ap (λ (l : List WholeRequest). record_of l (requests_of more).ending)
+    (sym (append_assoc rs (r ∷ []) (requests_of more).all))
   where
     record_of : List WholeRequest → Ending → Requests
     record_of all ending = record { all = all; ending = ending }
 
-pub read_more : (served : List Served) (request : WholeRequest) (before : ℕ) (block : List ℕ) (r : Reply) (a b c : Option (List ℕ)) → request ≢ Quit → Told a b (HasRead served) → Takes b c (λ bytes. Spells bytes request) → Told a c (HasRead (one_more served request before block r))
+pub read_more : (served : List Served) (request : WholeRequest) (before : ℕ) (block : List ℕ) (r : Reply)
+    (a b c : Option (List ℕ)) → request ≢ Quit → Told a b (HasRead served)
+    → Takes b c (λ bytes. Spells bytes request) → Told a c (HasRead (one_more served request before block r))
 read_more served request before block r a b c no_quit =
-    told_then (HasRead served) (λ was now. (taken : List ℕ) × (was ≡ taken ++ now) × Spells taken request) (HasRead (one_more served request before block r)) a b c
+    told_then (HasRead served) (λ was now. (taken : List ℕ) × (was ≡ taken ++ now) × Spells taken request)
+    (HasRead (one_more served request before block r)) a b c
     (λ x y z p q. (
       p.0 ++ q.0,
       p.1 ∙ ap (λ (l : List ℕ). p.0 ++ l) q.1 ∙ sym (append_assoc p.0 q.0 z),
-      subst (λ (rs : List WholeRequest). Spell (p.0 ++ q.0) rs) (sym (requests_more served request before block r)) (spell_more p.0 q.0 (requests_served served) request no_quit p.2 q.2),
+      subst (λ (rs : List WholeRequest). Spell (p.0 ++ q.0) rs)
+          (sym (requests_more served request before block r))
+          (spell_more p.0 q.0 (requests_served served) request no_quit p.2 q.2),
     ))
 
 -- the session goes on
-pub sofar_more : (alone : Bool) (old now new : Seat) (limits mid limits' left midway left' held written held' : Option (List ℕ)) → Sofar alone old now limits mid left midway held written → (t : TakesOne alone now new mid limits' midway left' written held' None) → t.request ≢ Quit → Sofar alone old new limits limits' left left' held held'
+pub sofar_more : (alone : Bool) (old now new : Seat)
+    (limits mid limits' left midway left' held written held' : Option (List ℕ))
+    → Sofar alone old now limits mid left midway held written
+    → (t : TakesOne alone now new mid limits' midway left' written held' None) → t.request ≢ Quit
+    → Sofar alone old new limits limits' left left' held held'
 sofar_more alone old now new limits mid limits' left midway left' held written held' s t no_quit = record {
   served = one_more s.served t.request (length now.seen) t.answers.serves.block t.answers.reply;
-  done = done_more alone old now new limits mid limits' s.served t.request t.answers.reply s.done t.answers.serves;
-  input = read_more s.served t.request (length now.seen) t.answers.serves.block t.answers.reply left midway left' no_quit s.input t.taken;
-  output = written_more s.served t.request (length now.seen) t.answers.serves.block t.answers.reply held written held' s.output t.answers.written;
+  done = done_more alone old now new limits mid limits' s.served t.request t.answers.reply s.done
+      t.answers.serves;
+  input = read_more s.served t.request (length now.seen) t.answers.serves.block t.answers.reply left midway
+      left' no_quit s.input t.taken;
+  output = written_more s.served t.request (length now.seen) t.answers.serves.block t.answers.reply held
+      written held' s.output t.answers.written;
 }
 
 -- a session that begins
-pub sofar_none : (alone : Bool) (s : Seat) (limits left held : Option (List ℕ)) → IsAtRest s → Sofar alone s s limits limits left (left_to_read [] left) held held
+pub sofar_none : (alone : Bool) (s : Seat) (limits left held : Option (List ℕ)) → IsAtRest s
+    → Sofar alone s s limits limits left (left_to_read [] left) held held
 sofar_none alone s limits left held rest = record {
   served = [];
   done = record {

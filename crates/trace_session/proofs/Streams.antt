@@ -1,5 +1,6 @@
 -- The published streams of a trace, one track after another.
-use Rattle.std.proofs.Common.{◌≡◌, ℕ, ◌+◌, zero, suc, List, [], ◌∷◌, ◌++◌, length, map, Option, None, Some, refl, sym, ap, ◌∙◌, arith, option_to_list, length-append, ◌≤◌, Bor}
+use Rattle.std.proofs.Common.{◌≡◌, ℕ, ◌+◌, zero, suc, List, [], ◌∷◌, ◌++◌, length, map, Option, None, Some}
+use Rattle.std.proofs.Common.{refl, sym, ap, ◌∙◌, arith, option_to_list, length-append, ◌≤◌, Bor}
 use Rattle.std.proofs.lemmas.List.{append-nil, map-append}
 use Rattle.std.proofs.lemmas.List.Elements.{filter_map-append, All-push}
 use Rattle.std.specs.List.{All, filter_map, range_with_len}
@@ -11,21 +12,25 @@ pub range_more : (a n : ℕ) → range_with_len a (suc n) ≡ range_with_len a n
 range_more a zero = let here : a ≡ a + 0 = omega arith in ap (λ (k : ℕ). k ∷ []) here
 range_more a (suc n) =
     let next : a + 1 + n ≡ a + suc n = omega arith in
-    ap (λ (l : List ℕ). a ∷ l) (range_more (a + 1) n ∙ ap (λ (k : ℕ). range_with_len (a + 1) n ++ k ∷ []) next)
+    ap (λ (l : List ℕ). a ∷ l) (range_more (a + 1) n ∙ ap (λ (k : ℕ). range_with_len (a + 1) n ++ k ∷ [])
+    next)
 
-one : (f : ℕ → Option TrackStream) (k : ℕ) (o : Option TrackStream) → f k ≡ o → filter_map f (k ∷ []) ≡ option_to_list o
+one : (f : ℕ → Option TrackStream) (k : ℕ) (o : Option TrackStream) → f k ≡ o
+    → filter_map f (k ∷ []) ≡ option_to_list o
 one f k None is = rw is refl
 one f k (Some s) is = rw is refl
 
 -- the stream of one track more, if there is one
-pub streams_more : (f : ℕ → Option TrackStream) (track : ℕ) (o : Option TrackStream) → o ≡ f track → filter_map f (range_with_len 0 (track + 1)) ≡ filter_map f (range_with_len 0 track) ++ option_to_list o
+pub streams_more : (f : ℕ → Option TrackStream) (track : ℕ) (o : Option TrackStream) → o ≡ f track
+    → filter_map f (range_with_len 0 (track + 1)) ≡ filter_map f (range_with_len 0 track) ++ option_to_list o
 streams_more f track o is =
     let count : track + 1 ≡ suc track = omega arith in
     let at : 0 + track ≡ track = omega arith in
     ap (λ (n : ℕ). filter_map f (range_with_len 0 n)) count
     ∙ ap (filter_map f) (range_more 0 track)
     ∙ filter_map-append f (range_with_len 0 track) ((0 + track) ∷ [])
-    ∙ ap (λ (l : List TrackStream). filter_map f (range_with_len 0 track) ++ l) (ap (λ (k : ℕ). filter_map f (k ∷ [])) at ∙ one f track o (sym is))
+    ∙ ap (λ (l : List TrackStream). filter_map f (range_with_len 0 track) ++ l)
+    (ap (λ (k : ℕ). filter_map f (k ∷ [])) at ∙ one f track o (sym is))
 
 -- the streams of the first n tracks were collected
 pub record Collected (f : ℕ → Option TrackStream) (n : ℕ) (items : List (Bor TrackStream)) : Type 0 where
@@ -33,16 +38,20 @@ pub record Collected (f : ℕ → Option TrackStream) (n : ℕ) (items : List (B
   pub few : length items ≤ n
   pub legal : All (λ (s : Bor TrackStream). IsLegal s.now) items
 
-pub collected_none : (f : ℕ → Option TrackStream) (n : ℕ) (items : List (Bor TrackStream)) → Collected f n items → None ≡ f n → Collected f (n + 1) items
+pub collected_none : (f : ℕ → Option TrackStream) (n : ℕ) (items : List (Bor TrackStream))
+    → Collected f n items → None ≡ f n → Collected f (n + 1) items
 collected_none f n items c is = record {
   streams = c.streams ∙ sym (append-nil (filter_map f (range_with_len 0 n))) ∙ sym (streams_more f n None is);
   few = omega (arith, c.few);
   legal = c.legal;
 }
 
-pub collected_some : (f : ℕ → Option TrackStream) (n : ℕ) (items : List (Bor TrackStream)) (s : Bor TrackStream) → Collected f n items → Some s.now ≡ f n → IsLegal s.now → Collected f (n + 1) (items ++ s ∷ [])
+pub collected_some : (f : ℕ → Option TrackStream) (n : ℕ) (items : List (Bor TrackStream))
+    (s : Bor TrackStream) → Collected f n items → Some s.now ≡ f n → IsLegal s.now
+    → Collected f (n + 1) (items ++ s ∷ [])
 collected_some f n items s c is legal = record {
-  streams = map-append (λ (x : Bor TrackStream). x.now) items (s ∷ []) ∙ ap (λ (l : List TrackStream). l ++ s.now ∷ []) c.streams ∙ sym (streams_more f n (Some s.now) is);
+  streams = map-append (λ (x : Bor TrackStream). x.now) items (s ∷ []) ∙ ap (λ (l : List TrackStream). l
+      ++ s.now ∷ []) c.streams ∙ sym (streams_more f n (Some s.now) is);
   few = omega (arith, c.few, length-append items (s ∷ []));
   legal = All-push (λ (x : Bor TrackStream). IsLegal x.now) items s c.legal legal;
 }

@@ -1,5 +1,6 @@
 -- The reply of a request whose place is k in a history. S is what the entries up to that place say.
-use Rattle.std.specs.Prelude.{◌≡◌, ℕ, ◌+◌, ◌-◌, Bool, if◌then◌else◌, zero, suc, List, [], ◌∷◌, length, take, map, filter_map, slice_get, slice_index_or, Option, None, Some}
+use Rattle.std.specs.Prelude.{◌≡◌, ℕ, ◌+◌, ◌-◌, Bool, if◌then◌else◌, zero, suc, List, [], ◌∷◌, length, take}
+use Rattle.std.specs.Prelude.{map, filter_map, slice_get, slice_index_or, Option, None, Some}
 use Rattle.std.specs.List.{range_with_len}
 use Rattle.std.specs.Option.{option_map_or}
 use Rattle.trace_base.specs.Flat.{flat}
@@ -8,7 +9,8 @@ use Rattle.trace_base.specs.declared.profile.Row.{Row}
 use Rattle.trace_base.specs.declared.profile.Profile.{Profile}
 use Rattle.trace_base.specs.declared.stream.TrackStream.{TrackStream}
 use Rattle.trace_base.specs.declared.text.TraceText.{TraceText}
-use Rattle.hall_trait.specs.History.{Entry, Opened, Published, Sealed, Dropped, Closed, Asked, info_of, stream_of, is_open, tracks_of}
+use Rattle.hall_trait.specs.History.{Entry, Opened, Published, Sealed, Dropped, Closed, Asked, info_of}
+use Rattle.hall_trait.specs.History.{stream_of, is_open, tracks_of}
 use Rattle.session_proto.specs.declared.reply.NamedRow.{NamedRow}
 use Rattle.session_proto.specs.declared.reply.No.TheVariants as no
 use Rattle.session_proto.specs.declared.reply.Reply.{Reply}
@@ -21,7 +23,8 @@ abbrev pub entry_at : List Entry → ℕ → Option Entry
 entry_at history zero = None
 entry_at history (suc i) = slice_get history i
 
--- the reply to a text in the small form, by the entry at its place: it was sealed under this id, or not let in
+-- the reply to a text in the small form, by the entry at its place: it was sealed under this id, or not let
+-- in
 abbrev pub opened_reply : ℕ → TraceText → Option Entry → Reply
 opened_reply k t (Some (Sealed id)) =
     reply.Put id (length t.names.tracks) (length t.names.functions) 0 k
@@ -57,7 +60,8 @@ profile_reply over functions k p = reply.Flat over p.bare (map (named functions)
 unfoldable pub flat_reply : List Entry → ℕ → ℕ → ℕ → ℕ → Reply
 flat_reply entries k id a b =
     if is_open entries id
-    then profile_reply (length (streams_of entries id)) (functions_of entries id) k (flat (streams_of entries id) a b)
+    then profile_reply (length (streams_of entries id)) (functions_of entries id) k
+    (flat (streams_of entries id) a b)
     else reply.No (no.Unknown id k)
 
 -- The reply of a request at place k. The replies of lines that aren't read and of QUIT have no place.

@@ -24,4 +24,5 @@ status_of ends.WriteFault = 3
 -- One session over a new hall that no one else acts in, and the status of its end.
 abbrev pub RunsBatch : Option (List ℕ) → Option (List ℕ) → Option (List ℕ) → Option (List ℕ) → ℕ → Type 0
 RunsBatch left left' held held' status =
-    (end : End) × (new : Seat) × IsSession true new_seat new None None left left' held held' end × (status ≡ status_of end)
+    (end : End) × (new : Seat) × IsSession true new_seat new None None left left' held held' end
+    × (status ≡ status_of end)

@@ -1,5 +1,6 @@
 -- A request that a session served: the places of its own entries, what these are, and its reply.
-use Rattle.std.specs.Prelude.{◌≡◌, ℕ, ◌+◌, ◌-◌, ◌≤◌, ◌<◌, ◌⊎◌, Bool, zero, suc, List, [], ◌∷◌, ◌++◌, length, take, map, flat_map, filter_map, Option, None, Some}
+use Rattle.std.specs.Prelude.{◌≡◌, ℕ, ◌+◌, ◌-◌, ◌≤◌, ◌<◌, ◌⊎◌, Bool, zero, suc, List, [], ◌∷◌, ◌++◌, length}
+use Rattle.std.specs.Prelude.{take, map, flat_map, filter_map, Option, None, Some}
 use Rattle.std.specs.Bool.{OnTrue}
 use Rattle.trace_base.specs.declared.stream.TrackStream.{TrackStream}
 use Rattle.trace_base.specs.declared.text.TraceText.{TraceText}
@@ -13,8 +14,8 @@ use Rattle.small_form.specs.SmallForm.{small_form, info_of}
 use Rattle.trace_session.specs.Replies.{entry_at, reply_at}
 use Rattle.request_reader.specs.Requests.{WholeRequest, Put, Flat, Quit, Unreadable}
 
--- the request, how many entries the seat had seen when it came, its block, which is the places of its entries, and its
--- reply
+-- the request, how many entries the seat had seen when it came, its block, which is the places of its
+-- entries, and its reply
 pub record Served : Type 0 where
   pub request : WholeRequest
   pub before : ℕ
@@ -73,31 +74,35 @@ Needs (Flat id a b) n = n ≡ 1
 Needs Quit n = ⊥
 Needs Unreadable n = ⊥
 
--- The places are used up: nothing is entered, and those that the request needs don't fit behind p others. In a session that
--- is alone in its hall p is how many are taken or promised in what it had seen before.
+-- The places are used up: nothing is entered, and those that the request needs don't fit behind p others. In
+-- a session that is alone in its hall p is how many are taken or promised in what it had seen before.
 abbrev pub IsSpent : Bool → List Entry → ℕ → WholeRequest → Reply → List Entry → Type 0
 IsSpent alone history before request r entries =
     (n p : ℕ) × (r ≡ reply.No (no.Spent p)) × (entries ≡ []) × Needs request n × LeavesNoRoom n p
     × (before ≤ length history) × OnTrue alone (p ≡ places_taken (take before history))
 
--- The entries that want of memory may leave: of a query that it asked, and of a text that its load was given up. QUIT
--- and a line that isn't read never meet it.
+-- The entries that want of memory may leave: of a query that it asked, and of a text that its load was given
+-- up. QUIT and a line that isn't read never meet it.
 abbrev pub MayLeave : WholeRequest → List Entry → Type 0
-MayLeave (Put text) entries = (entries ≡ []) ⊎ ((id n : ℕ) × (t : TraceText) × (small_form text ≡ Some t) × (entries ≡ dropped_entries id t n))
+MayLeave (Put text) entries = (entries ≡ []) ⊎ ((id n : ℕ) × (t : TraceText) × (small_form text ≡ Some t)
+    × (entries ≡ dropped_entries id t n))
 MayLeave (Flat id a b) entries = (entries ≡ []) ⊎ (entries ≡ Asked ∷ [])
 MayLeave Quit entries = ⊥
 MayLeave Unreadable entries = ⊥
 
--- the reply is the request's own at the last place of its block, or the places are used up, or there was no memory
+-- the reply is the request's own at the last place of its block, or the places are used up, or there was no
+-- memory
 abbrev pub IsAnswered : Bool → List Entry → ℕ → WholeRequest → List ℕ → List Entry → Reply → Type 0
 IsAnswered alone history before request block entries r =
-    ((r ≡ reply_at history (last_place block) request) × OwnEntries alone history (last_place block) request r entries)
+    ((r ≡ reply_at history (last_place block) request) × OwnEntries alone history (last_place block) request r
+    entries)
     ⊎ IsSpent alone history before request r entries
     ⊎ ((r ≡ reply.No no.Memory) × MayLeave request entries)
 
 -- the request was served, in this history
 abbrev pub IsServed : Bool → List Entry → Served → Type 0
-IsServed alone history x = (entries : List Entry) × AreAt history x.block entries × IsAnswered alone history x.before x.request x.block entries x.reply
+IsServed alone history x = (entries : List Entry) × AreAt history x.block entries
+    × IsAnswered alone history x.before x.request x.block entries x.reply
 
 -- the places of all blocks, the texts of all replies, and the numbers that were told to be used up, in order
 abbrev pub blocks_of : List Served → List ℕ

@@ -8,8 +8,8 @@ use Rattle.session_proto.specs.declared.reply.Reply.{Reply}
 use Rattle.request_reader.specs.Requests.{WholeRequest}
 use Rattle.trace_session.specs.Served.{AreAt, Rise, IsAnswered, spent_number}
 
--- The seat made these entries, at the places of the block, which rise behind what it had seen, and no others. A seat that
--- is alone saw no others either.
+-- The seat made these entries, at the places of the block, which rise behind what it had seen, and no others.
+-- A seat that is alone saw no others either.
 pub record Grows (alone : Bool) (old new : Seat) (block : List ℕ) (entries : List Entry) : Type 0 where
   pub at : AreAt new.seen block entries
   pub rises : Rise (length old.seen) block (length new.seen)
@@ -22,7 +22,8 @@ abbrev pub RecordsReply : Option (List ℕ) → Option (List ℕ) → Reply → 
 RecordsReply old new reply = Told old new (λ was now. now ≡ was ++ option_to_list (spent_number reply))
 
 -- The request was served with this reply, and the seat is at rest again.
-pub record Serves (alone : Bool) (old new : Seat) (limits limits' : Option (List ℕ)) (request : WholeRequest) (reply : Reply) : Type 0 where
+pub record Serves (alone : Bool) (old new : Seat) (limits limits' : Option (List ℕ)) (request : WholeRequest)
+    (reply : Reply) : Type 0 where
   pub block : List ℕ
   pub entries : List Entry
   pub grows : Grows alone old new block entries

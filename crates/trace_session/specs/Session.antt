@@ -6,7 +6,8 @@ use Rattle.trace_base.specs.Outside.{Told}
 use Rattle.hall_trait.specs.History.{IsLegalHistory}
 use Rattle.hall_trait.specs.Seat.{Seat, Begins, IsAtRest}
 use Rattle.session_proto.specs.Reply.{reply_text}
-use Rattle.request_reader.specs.Requests.{WholeRequest, Requests, Ending, AfterQuit, Between, Inside, requests_of}
+use Rattle.request_reader.specs.Requests.{WholeRequest, Requests, Ending, AfterQuit, Between, Inside}
+use Rattle.request_reader.specs.Requests.{requests_of}
 use Rattle.trace_session.specs.Output.{WritesFront}
 use Rattle.trace_session.specs.Served.{Served, IsServed, Rise, blocks_of, output_of, spent_numbers}
 use Rattle.trace_session.specs.declared.sessions.End.{End}
@@ -16,9 +17,9 @@ use Rattle.trace_session.specs.declared.sessions.End.TheVariants as ends
 abbrev pub requests_served : List Served → List WholeRequest
 requests_served served = map (λ (x : Served). x.request) served
 
--- What was served is what the given bytes ask. At Quit the last request is QUIT; at Eof the bytes end between two
--- requests, and at Cut inside one. Where the source failed all whole requests were served, and where the sink did, the
--- first ones.
+-- What was served is what the given bytes ask. At Quit the last request is QUIT; at Eof the bytes end between
+-- two requests, and at Cut inside one. Where the source failed all whole requests were served, and where the
+-- sink did, the first ones.
 abbrev pub Answers : End → Requests → List Served → Type 0
 Answers ends.Quit asked served = asked ≡ record { all = requests_served served; ending = AfterQuit }
 Answers ends.Eof asked served = asked ≡ record { all = requests_served served; ending = Between }
@@ -36,27 +37,32 @@ LeavesNothing ends.WriteFault now = Unit {0}
 
 -- the bytes that the source gave, and what was served of them
 abbrev pub ReadsRequests : End → List ℕ → List ℕ → List Served → Type 0
-ReadsRequests end was now served = (given : List ℕ) × (was ≡ given ++ now) × Answers end (requests_of given) served × LeavesNothing end now
+ReadsRequests end was now served = (given : List ℕ) × (was ≡ given ++ now)
+    × Answers end (requests_of given) served × LeavesNothing end now
 
--- All replies were written, one after another; where the sink failed, all but the last, and of that a front alone.
+-- All replies were written, one after another; where the sink failed, all but the last, and of that a front
+-- alone.
 abbrev pub WritesReplies : End → List ℕ → List ℕ → List Served → Type 0
 WritesReplies ends.WriteFault was now served =
-    (earlier : List Served) × (last : Served) × (served ≡ earlier ++ last ∷ []) × WritesFront (reply_text last.reply) (was ++ output_of earlier) now
+    (earlier : List Served) × (last : Served) × (served ≡ earlier ++ last ∷ [])
+    × WritesFront (reply_text last.reply) (was ++ output_of earlier) now
 WritesReplies ends.Quit was now served = now ≡ was ++ output_of served
 WritesReplies ends.Eof was now served = now ≡ was ++ output_of served
 WritesReplies ends.Cut was now served = now ≡ was ++ output_of served
 WritesReplies ends.ReadFault was now served = now ≡ was ++ output_of served
 
--- Each request came when the seat had seen so many entries: n of them at the first, and m behind the last. The places of
--- its block lie behind these and among those that were seen when the next one came.
+-- Each request came when the seat had seen so many entries: n of them at the first, and m behind the last.
+-- The places of its block lie behind these and among those that were seen when the next one came.
 abbrev pub ComeInOrder : ℕ → List Served → ℕ → Type 0
 ComeInOrder n [] m = n ≡ m
-ComeInOrder n (x ∷ served) m = (x.before ≡ n) × (after : ℕ) × Rise n x.block after × ComeInOrder after served m
+ComeInOrder n (x ∷ served) m = (x.before ≡ n) × (after : ℕ) × Rise n x.block after
+    × ComeInOrder after served m
 
--- A session over a seat, from old to new. Each request was served in the history that the seat has seen at its end, which
--- is legal. The seat's new places are the blocks in order and nothing else, and a seat that is alone saw no entries but
--- those. It is left at rest.
-pub record IsSession (alone : Bool) (old new : Seat) (limits limits' left left' held held' : Option (List ℕ)) (end : End) : Type 0 where
+-- A session over a seat, from old to new. Each request was served in the history that the seat has seen at
+-- its end, which is legal. The seat's new places are the blocks in order and nothing else, and a seat that is
+-- alone saw no entries but those. It is left at rest.
+pub record IsSession (alone : Bool) (old new : Seat) (limits limits' left left' held held' : Option (List ℕ))
+    (end : End) : Type 0 where
   pub served : List Served
   pub each : AllByRecursion (IsServed alone new.seen) served
   pub seen : Begins old.seen new.seen

@@ -24,7 +24,8 @@ WritesText (Some ends.ReadFault) text was now = now ≡ was ++ text
 WritesText (Some ends.WriteFault) text was now = WritesFront text was now
 
 -- The request was served, and its reply written.
-pub record AnswersOne (alone : Bool) (old new : Seat) (limits limits' held held' : Option (List ℕ)) (request : WholeRequest) (result : Option End) : Type 0 where
+pub record AnswersOne (alone : Bool) (old new : Seat) (limits limits' held held' : Option (List ℕ))
+    (request : WholeRequest) (result : Option End) : Type 0 where
   pub reply : Reply
   pub serves : Serves alone old new limits limits' request reply
   pub written : Told held held' (λ was now. WritesText result (reply_text reply) was now)
@@ -39,30 +40,38 @@ EndsWith i (Some ends.Cut) = ⊥
 EndsWith i (Some ends.ReadFault) = ⊥
 
 -- A request was taken from what was left to read, and answered.
-pub record TakesOne (alone : Bool) (old new : Seat) (limits limits' left left' held held' : Option (List ℕ)) (result : Option End) : Type 0 where
+pub record TakesOne (alone : Bool) (old new : Seat) (limits limits' left left' held held' : Option (List ℕ))
+    (result : Option End) : Type 0 where
   pub request : WholeRequest
   pub taken : Takes left left' (λ bytes. Spells bytes request)
   pub answers : AnswersOne alone old new limits limits' held held' request result
 
--- Nothing was served, and nothing written: the bytes taken hold no whole request, and none is left but where the source
--- failed.
-pub record TakesNone (old new : Seat) (limits limits' left left' held held' : Option (List ℕ)) (P : List ℕ → List ℕ → Type 0) : Type 0 where
+-- Nothing was served, and nothing written: the bytes taken hold no whole request, and none is left but where
+-- the source failed.
+pub record TakesNone (old new : Seat) (limits limits' left left' held held' : Option (List ℕ))
+    (P : List ℕ → List ℕ → Type 0) : Type 0 where
   pub seat : new ≡ old
   pub limits_same : limits' ≡ limits
   pub held_same : held' ≡ held
-  pub taken : Told left left' (λ was now. (bytes : List ℕ) × (was ≡ bytes ++ now) × (first_request bytes ≡ None) × P bytes now)
+  pub taken : Told left left' (λ was now. (bytes : List ℕ) × (was ≡ bytes ++ now)
+      × (first_request bytes ≡ None) × P bytes now)
 
--- What a step does, by its result. `left` is what is left to read, and `pending` what of it waits in the buffer.
-abbrev pub Steps : Bool → Seat → Seat → Option (List ℕ) → Option (List ℕ) → Option (List ℕ) → Option (List ℕ) → Option (List ℕ) → Option (List ℕ) → List ℕ → Option End → Type 0
+-- What a step does, by its result. `left` is what is left to read, and `pending` what of it waits in the
+-- buffer.
+abbrev pub Steps : Bool → Seat → Seat → Option (List ℕ) → Option (List ℕ) → Option (List ℕ) → Option (List ℕ)
+    → Option (List ℕ) → Option (List ℕ) → List ℕ → Option End → Type 0
 Steps alone old new limits limits' left left' held held' pending None =
     (t : TakesOne alone old new limits limits' left left' held held' None) × (t.request ≢ Quit)
 Steps alone old new limits limits' left left' held held' pending (Some ends.Quit) =
     (t : TakesOne alone old new limits limits' left left' held held' (Some ends.Quit)) × (t.request ≡ Quit)
-Steps alone old new limits limits' left left' held held' pending (Some ends.WriteFault) = TakesOne alone old new limits limits' left left' held held' (Some ends.WriteFault)
+Steps alone old new limits limits' left left' held held' pending (Some ends.WriteFault) =
+    TakesOne alone old new limits limits' left left' held held' (Some ends.WriteFault)
 Steps alone old new limits limits' left left' held held' pending (Some ends.Eof) =
-    TakesNone old new limits limits' left left' held held' (λ bytes now. (bytes ≡ []) × (now ≡ [])) × (pending ≡ [])
+    TakesNone old new limits limits' left left' held held' (λ bytes now. (bytes ≡ []) × (now ≡ []))
+    × (pending ≡ [])
 Steps alone old new limits limits' left left' held held' pending (Some ends.Cut) =
-    TakesNone old new limits limits' left left' held held' (λ bytes now. (bytes ≢ []) × (now ≡ [])) × (pending ≡ [])
+    TakesNone old new limits limits' left left' held held' (λ bytes now. (bytes ≢ []) × (now ≡ []))
+    × (pending ≡ [])
 Steps alone old new limits limits' left left' held held' pending (Some ends.ReadFault) =
     TakesNone old new limits limits' left left' held held' (λ bytes now. Unit {0}) × (pending ≡ [])
 

@@ -7,8 +7,8 @@ use trace_base::Memory;
 /// The room that a reply of one line needs, in bytes.
 const SHORT: usize = 200;
 
-/// The buffers of a session: for the bytes that wait and the text of a PUT, and for a reply. A reply of one line finds
-/// its room always.
+/// The buffers of a session: for the bytes that wait and the text of a PUT, and for a reply. A reply of one
+/// line finds its room always.
 #[derive(Debug, Drop)]
 pub struct SessionBuf {
     pub(crate) input: InputBuf,

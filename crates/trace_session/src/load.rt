@@ -19,7 +19,8 @@ use trace_base::{MsgTable, Seq, TraceInfo, TraceText, TrackStream};
 pub fn serve_put<R: Wait, H: Hall>(rt: &R, alloc: Global, hall: &mut H, text: &[u8]) -> Reply
     requires rest { IsAtRest (H.seat hall.old) }
     requires limit { length text.now ≤ 65536 }
-    ensures { Serves H.alone (H.seat hall.old) (H.seat hall.new) (H.limits hall.old) (H.limits hall.new) (Put text.now) result }
+    ensures { Serves H.alone (H.seat hall.old) (H.seat hall.new) (H.limits hall.old) (H.limits hall.new)
+        (Put text.now) result }
 {
     match read_small(alloc, text) {
         Ok(trace) => open_trace(rt, alloc, hall, trace),
@@ -35,7 +36,8 @@ fn open_trace<R: Wait, H: Hall>(rt: &R, alloc: Global, hall: &mut H, trace: Trac
     requires lengths { length trace.tracks ≡ length trace.names.tracks }
     requires fits { FitAll (info_of trace) trace.tracks }
     ensures { (text : List ℕ) → small_form text ≡ Some trace
-        → Serves H.alone (H.seat hall.old) (H.seat hall.new) (H.limits hall.old) (H.limits hall.new) (Put text) result }
+        → Serves H.alone (H.seat hall.old) (H.seat hall.new) (H.limits hall.old) (H.limits hall.new)
+        (Put text) result }
 {
     let TraceText {
         names,
@@ -72,8 +74,8 @@ fn open_trace<R: Wait, H: Hall>(rt: &R, alloc: Global, hall: &mut H, trace: Trac
     }
 }
 
-// Publishes the tracks of a trace that was let in, and seals it; answers the place of the seal. Without memory the
-// load is given up.
+// Publishes the tracks of a trace that was let in, and seals it; answers the place of the seal. Without
+// memory the load is given up.
 fn publish_all<R: Wait, H: Hall>(
     rt: &R,
     hall: &mut H,

@@ -10,7 +10,8 @@ pub struct WriteFailed;
 
 /// Writes all the bytes, in as many calls as it takes. Where the sink fails, only the first ones are written.
 pub fn write_all<O: Sink>(output: &mut O, bytes: &[u8]) -> Result<(), WriteFailed>
-    ensures ok { OnOk result (Told (O.held output.old) (O.held output.new) (λ was now. now ≡ was ++ bytes.now)) }
+    ensures ok { OnOk result (Told (O.held output.old) (O.held output.new) (λ was now. now ≡ was
+        ++ bytes.now)) }
     ensures err { OnErr result (Told (O.held output.old) (O.held output.new) (WritesFront bytes.now)) }
     ensures later { O.faults output.old ≤ O.faults output.new }
     ensures cause { OnErr result (Rose (O.faults output.old) (O.faults output.new)) }

@@ -1,4 +1,5 @@
-ghost use Rattle.std.specs.Prelude.{◌≡◌, ◌+◌, ◌-◌, ◌^◌, ◌≤◌, ◌<◌, ◌⊎◌, ℕ, List, [], length, map, take, All, Contains, IfOk, Some, slice_index_or};
+ghost use Rattle.std.specs.Prelude.{◌≡◌, ◌+◌, ◌-◌, ◌^◌, ◌≤◌, ◌<◌, ◌⊎◌, ℕ, List, [], length, map, take, All};
+ghost use Rattle.std.specs.Prelude.{Contains, IfOk, Some, slice_index_or};
 ghost use Rattle.trace_base.specs.Flat.{flat};
 ghost use Rattle.trace_base.specs.Stream.{IsLegal};
 ghost use Rattle.trace_base.specs.declared.stream.TrackStream.{TrackStream};
@@ -18,7 +19,8 @@ use std::alloc::Global;
 use std::sync::Wait;
 use trace_base::{AskIds, Memory, Name, Row, Seq, TrackStream};
 
-/// Serves a FLAT: the flat profile of the trace's published tracks over the half-open interval [a, b), in nanoseconds.
+/// Serves a FLAT: the flat profile of the trace's published tracks over the half-open interval [a, b), in
+/// nanoseconds.
 pub fn serve_flat<R: Wait, H: Hall>(
     rt: &R,
     alloc: Global,
@@ -30,7 +32,8 @@ pub fn serve_flat<R: Wait, H: Hall>(
     requires rest { IsAtRest (H.seat hall.old) }
     requires below { a < b }
     requires limit { b ≤ 2 ^ 62 }
-    ensures { Serves H.alone (H.seat hall.old) (H.seat hall.new) (H.limits hall.old) (H.limits hall.new) (Flat id a b) result }
+    ensures { Serves H.alone (H.seat hall.old) (H.seat hall.new) (H.limits hall.old) (H.limits hall.new)
+        (Flat id a b) result }
 {
     match hall.ask(rt, AskIds::One(id)) {
         AskAnswer::Pinned(pin) => {
@@ -57,11 +60,13 @@ fn pinned_profile<R: Wait, H: Hall>(
     b: u64,
 ) -> Reply
     requires has { Contains (H.seat hall.old).pins (pin_view pin.now) }
-    requires tracks { pin.now.first.tracks ≡ tracks_of (take pin.now.place (H.seat hall.old).seen) (first_id pin.now.ids) }
+    requires tracks { pin.now.first.tracks ≡ tracks_of (take pin.now.place (H.seat hall.old).seen)
+        (first_id pin.now.ids) }
     requires below { a < b }
     requires limit { b ≤ 2 ^ 62 }
     ensures reply { let seen = take pin.now.place (H.seat hall.old).seen in let id = first_id pin.now.ids in
-        (result ≡ profile_reply (length (streams_of seen id)) (functions_of seen id) pin.now.place (flat (streams_of seen id) a b))
+        (result ≡ profile_reply (length (streams_of seen id)) (functions_of seen id) pin.now.place
+        (flat (streams_of seen id) a b))
         ⊎ (result ≡ Refused NoMemory) }
     ensures seat { H.seat hall.new ≡ H.seat hall.old }
     ensures records { H.limits hall.new ≡ H.limits hall.old }
@@ -85,7 +90,8 @@ fn profile_over<H: Hall>(
     b: u64,
 ) -> Result<Reply, Memory>
     requires has { Contains (H.seat hall.now).pins (pin_view pin.now) }
-    requires tracks { pin.now.first.tracks ≡ tracks_of (take pin.now.place (H.seat hall.now).seen) (first_id pin.now.ids) }
+    requires tracks { pin.now.first.tracks ≡ tracks_of (take pin.now.place (H.seat hall.now).seen)
+        (first_id pin.now.ids) }
     requires few { pin.now.first.tracks ≤ 4096 }
     requires below { a < b }
     requires limit { b ≤ 2 ^ 62 }
@@ -112,8 +118,10 @@ fn published_streams<'a, H: Hall>(
     pin: &Pin,
 ) -> Result<Vec<&'a TrackStream>, Memory>
     requires has { Contains (H.seat hall.now).pins (pin_view pin.now) }
-    requires tracks { pin.now.first.tracks ≡ tracks_of (take pin.now.place (H.seat hall.now).seen) (first_id pin.now.ids) }
-    ensures streams { IfOk result (λ v. map (λ s. s.now) v.items ≡ streams_of (take pin.now.place (H.seat hall.now).seen) (first_id pin.now.ids)) }
+    requires tracks { pin.now.first.tracks ≡ tracks_of (take pin.now.place (H.seat hall.now).seen)
+        (first_id pin.now.ids) }
+    ensures streams { IfOk result (λ v. map (λ s. s.now) v.items ≡ streams_of
+        (take pin.now.place (H.seat hall.now).seen) (first_id pin.now.ids)) }
     ensures few { IfOk result (λ v. length v.items ≤ pin.now.first.tracks) }
     ensures legal { IfOk result (λ v. All (λ s. IsLegal s.now) v.items) }
 {

@@ -1,4 +1,5 @@
-ghost use Rattle.std.specs.Prelude.{◌≡◌, ◌≢◌, ◌++◌, ◌∷◌, [], ◌⊎◌, ◌↔◌, IsTrue, List, ℕ, codes, string_bytes, map};
+ghost use Rattle.std.specs.Prelude.{◌≡◌, ◌≢◌, ◌++◌, ◌∷◌, [], ◌⊎◌, ◌↔◌, IsTrue, List, ℕ, codes, string_bytes};
+ghost use Rattle.std.specs.Prelude.{map};
 ghost use Rattle.trace_base.specs.Outside.{Rose, Told};
 ghost use Rattle.trace_session.specs.Output.{WritesFront};
 ghost use Rattle.trace_session.specs.Run.{RunsBatch, usage_text, status_of};
@@ -27,11 +28,11 @@ const CUT: u8 = 6;
 const USAGE: &str =
     "usage: cccgd batch, cccgd serve <addr> <workers> <each>, cccgd gen <seed> <size>\n";
 
-/// The whole program, for the words behind its own name. `batch` serves one session over a new hall. The answer is the
-/// exit status: 0 where the session ended behind QUIT or at the end of the input between two requests, and all was
-/// written; 2 where the words aren't known and the usage line was written; 3 where the output failed, or in `batch` the
-/// input; 5 where no memory was found for the hall or the buffers, and nothing was read or written; 6 where the input
-/// ended inside a request.
+/// The whole program, for the words behind its own name. `batch` serves one session over a new hall. The
+/// answer is the exit status: 0 where the session ended behind QUIT or at the end of the input between two
+/// requests, and all was written; 2 where the words aren't known and the usage line was written; 3 where the
+/// output failed, or in `batch` the input; 5 where no memory was found for the hall or the buffers, and
+/// nothing was read or written; 6 where the input ended inside a request.
 pub fn run<R: Wait, I: Source, O: Sink>(
     rt: &R,
     alloc: Global,
@@ -41,13 +42,16 @@ pub fn run<R: Wait, I: Source, O: Sink>(
 ) -> u8
     ensures batch { map string_bytes words.now ≡ codes "batch" ∷ [] → result ≢ 5
         → RunsBatch (I.left input.old) (I.left input.new) (O.held output.old) (O.held output.new) result }
-    ensures memory { result ≡ 5 → (map string_bytes words.now ≡ codes "batch" ∷ []) × (input.new ≡ input.old) × (output.new ≡ output.old) }
-    ensures unknown { (map string_bytes words.now ≢ codes "batch" ∷ []) → (input.new ≡ input.old) × ((result ≡ 2) ⊎ (result ≡ 3)) }
+    ensures memory { result ≡ 5 → (map string_bytes words.now ≡ codes "batch" ∷ []) × (input.new ≡ input.old)
+        × (output.new ≡ output.old) }
+    ensures unknown { (map string_bytes words.now ≢ codes "batch" ∷ []) → (input.new ≡ input.old)
+        × ((result ≡ 2) ⊎ (result ≡ 3)) }
     ensures usage { result ≡ 2 → (map string_bytes words.now ≢ codes "batch" ∷ [])
         × Told (O.held output.old) (O.held output.new) (λ was now. now ≡ was ++ usage_text) }
     ensures no_usage { (map string_bytes words.now ≢ codes "batch" ∷ []) → result ≡ 3
         → Told (O.held output.old) (O.held output.new) (WritesFront usage_text) }
-    ensures fault { result ≡ 3 → Rose (O.faults output.old) (O.faults output.new) ⊎ Rose (I.faults input.old) (I.faults input.new) }
+    ensures fault { result ≡ 3 → Rose (O.faults output.old) (O.faults output.new)
+        ⊎ Rose (I.faults input.old) (I.faults input.new) }
 {
     if !is_batch(words) {
         return usage(output);
@@ -74,7 +78,8 @@ fn is_batch(words: &[String]) -> bool
 // Writes the usage line.
 fn usage<O: Sink>(output: &mut O) -> u8
     ensures status { (result ≡ 2) ⊎ (result ≡ 3) }
-    ensures written { result ≡ 2 → Told (O.held output.old) (O.held output.new) (λ was now. now ≡ was ++ usage_text) }
+    ensures written { result ≡ 2 → Told (O.held output.old) (O.held output.new) (λ was now. now ≡ was
+        ++ usage_text) }
     ensures failed { result ≡ 3 → Told (O.held output.old) (O.held output.new) (WritesFront usage_text) }
     ensures cause { result ≡ 3 → Rose (O.faults output.old) (O.faults output.new) }
 {

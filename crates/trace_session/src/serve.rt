@@ -26,7 +26,8 @@ pub fn serve<R: Wait, H: Hall>(
     requires request { IsRequest incoming }
     requires limits { IsWithinLimits incoming text.now }
     ensures { (request : WholeRequest) → Is incoming text.now request
-        → Serves H.alone (H.seat hall.old) (H.seat hall.new) (H.limits hall.old) (H.limits hall.new) request result }
+        → Serves H.alone (H.seat hall.old) (H.seat hall.new) (H.limits hall.old) (H.limits hall.new) request
+        result }
 {
     match incoming {
         Incoming::Put => serve_put(rt, alloc, hall, text),

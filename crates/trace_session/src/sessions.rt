@@ -29,9 +29,9 @@ pub enum End {
     WriteFault,
 }
 
-/// Serves the requests of a source over a seat of a hall, one after the other: each is read, answered, and its reply
-/// written. The session ends behind QUIT, where nothing is left to read, or where the source or the sink fails. It may
-/// wait for input.
+/// Serves the requests of a source over a seat of a hall, one after the other: each is read, answered, and
+/// its reply written. The session ends behind QUIT, where nothing is left to read, or where the source or the
+/// sink fails. It may wait for input.
 pub fn session<R: Wait, H: Hall, I: Source, O: Sink>(
     rt: &R,
     alloc: Global,
@@ -41,7 +41,8 @@ pub fn session<R: Wait, H: Hall, I: Source, O: Sink>(
     buf: &mut SessionBuf,
 ) -> End
     requires { IsAtRest (H.seat hall.old) }
-    ensures session { IsSession H.alone (H.seat hall.old) (H.seat hall.new) (H.limits hall.old) (H.limits hall.new)
+    ensures session { IsSession H.alone (H.seat hall.old) (H.seat hall.new) (H.limits hall.old)
+        (H.limits hall.new)
         (I.left input.old) (I.left input.new) (O.held output.old) (O.held output.new) result }
     ensures read_fault { result ≡ ReadFault → Rose (I.faults input.old) (I.faults input.new) }
     ensures write_fault { result ≡ WriteFault → Rose (O.faults output.old) (O.faults output.new) }
@@ -66,7 +67,8 @@ fn step<R: Wait, H: Hall, I: Source, O: Sink>(
 ) -> Option<End>
     requires { IsAtRest (H.seat hall.old) }
     ensures steps { Steps H.alone (H.seat hall.old) (H.seat hall.new) (H.limits hall.old) (H.limits hall.new)
-        (left_to_read buf.old.input.pending (I.left input.old)) (left_to_read buf.new.input.pending (I.left input.new))
+        (left_to_read buf.old.input.pending (I.left input.old))
+        (left_to_read buf.new.input.pending (I.left input.new))
         (O.held output.old) (O.held output.new) buf.new.input.pending result }
     ensures reads { I.faults input.old ≤ I.faults input.new }
     ensures writes { O.faults output.old ≤ O.faults output.new }

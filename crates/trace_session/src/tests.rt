@@ -258,7 +258,8 @@ fn one_byte_a_call(rt: HostRuntime) -> Result<(), Fail> {
     Ok(())
 }
 
-// The status of the program for these words, and what it writes. `sink_fails` lists the calls of the sink that fail.
+// The status of the program for these words, and what it writes. `sink_fails` lists the calls of the sink
+// that fail.
 fn ran(
     rt: &impl Wait,
     alloc: Global,

@@ -14,15 +14,33 @@ loop-event-init c = (c.new-stack.ensures.items, omega arith, omega arith)
 
 pub loop-event-preserved : goal.loop-event-preserved
 loop-event-preserved c =
-    let stack = stack-read c.args.s.now.events c.as_slice-events.result.now c.loop-event.event-index (Enter 0 0) c.loop-event.stack.items c.step.new.stack.items c.as_slice-events.ensures c.loop-event-test.true c.loop-event.invariant.0 c.in_ok-step.ensures in
-    let made = calls_making-step (has c.args.part) c.args.a c.args.b c.args.s.now c.as_slice-events.result.now c.loop-event.event-index (Enter 0 0) c.as_slice.result.now c.as_slice-events.ensures c.loop-event-test.true (c.as_slice.ensures.value ∙ stack) in (
+    let stack = stack-read c.args.s.now.events c.as_slice-events.result.now c.loop-event.event-index
+    (Enter 0 0) c.loop-event.stack.items c.step.new.stack.items c.as_slice-events.ensures
+    c.loop-event-test.true c.loop-event.invariant.0 c.in_ok-step.ensures in
+    let made = calls_making-step (has c.args.part) c.args.a c.args.b c.args.s.now c.as_slice-events.result.now
+    c.loop-event.event-index (Enter 0 0) c.as_slice.result.now c.as_slice-events.ensures
+    c.loop-event-test.true (c.as_slice.ensures.value ∙ stack) in (
       stack,
-      omega (arith, c.loop-event.invariant.1, count_by-range-more (makes (has c.args.part) c.args.a c.args.b c.args.s.now) c.loop-event.event-index, c.call_into-calls.ensures.exact, ap {B = ℕ} (λ (b : Bool). cond b 1 0) made),
+      omega (
+        arith,
+        c.loop-event.invariant.1,
+        count_by-range-more
+            (makes (has c.args.part) c.args.a c.args.b c.args.s.now) c.loop-event.event-index,
+        c.call_into-calls.ensures.exact,
+        ap {B = ℕ} (λ (b : Bool). cond b 1 0) made,
+      ),
       omega (arith, c.loop-event.invariant.2, c.call_into-calls.ensures.one),
     )
 
 pub returns : goal.returns
 unfolding calls_making
 returns c =
-    let count : c.loop-event.event-index ≡ length c.args.s.now.events = omega (arith, c.loop-event-test.false, ap length c.as_slice-events.ensures, c.loop-event.auto.event-index-end) in
-    c.loop-event.invariant.1 ∙ ap (λ (n : ℕ). count_by (makes (has c.args.part) c.args.a c.args.b c.args.s.now) (range_with_len 0 n)) count
+    let count : c.loop-event.event-index ≡ length c.args.s.now.events =
+    omega (
+      arith,
+      c.loop-event-test.false,
+      ap length c.as_slice-events.ensures,
+      c.loop-event.auto.event-index-end,
+    ) in
+    c.loop-event.invariant.1 ∙ ap (λ (n : ℕ). count_by
+    (makes (has c.args.part) c.args.a c.args.b c.args.s.now) (range_with_len 0 n)) count

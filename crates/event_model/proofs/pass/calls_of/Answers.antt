@@ -7,5 +7,6 @@ use Rattle.event_model.proofs.pass.calls_of.Goals as goal
 pub returns-clause-within_limit : goal.returns-clause-within_limit
 unfolding calls_in
 returns-clause-within_limit c =
-    let exact : c.loop-event.calls ≡ calls_in c.args.f c.args.a c.args.b c.args.s.now = grind (arith, common_steps) in
+    let exact : c.loop-event.calls ≡ calls_in c.args.f c.args.a c.args.b c.args.s.now =
+    grind (arith, common_steps) in
     omega (arith, exact, calls_in-le c.args.f c.args.a c.args.b c.args.s.now c.requires)

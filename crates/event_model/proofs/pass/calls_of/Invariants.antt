@@ -4,4 +4,5 @@ use Rattle.event_model.proofs.pass.calls_of.Given as goal
 
 abbrev pub invariant-loop-event : goal.invariant-loop-event
 invariant-loop-event l =
-    (l.calls ≡ count_by (enters_in l.f l.a l.b) (take l.event-index l.event-items)) × (l.calls ≤ l.event-index)
+    (l.calls ≡ count_by (enters_in l.f l.a l.b) (take l.event-index l.event-items))
+    × (l.calls ≤ l.event-index)

@@ -5,4 +5,5 @@ use Rattle.event_model.proofs.Legal.{no_length-legal}
 use Rattle.event_model.proofs.tests.no_length.Goals as goal
 
 pub returns : goal.returns
-returns c = let P : List Event → Type 0 = λ es. IsLegal (record { start = 0; end = 100; events = es }) in subst P (sym c.in_ok-events.ensures) no_length-legal
+returns c = let P : List Event → Type 0 = λ es. IsLegal (record { start = 0; end = 100; events = es })
+    in subst P (sym c.in_ok-events.ensures) no_length-legal

@@ -5,4 +5,5 @@ use Rattle.event_model.proofs.Legal.{recursion-legal}
 use Rattle.event_model.proofs.tests.recursion.Goals as goal
 
 pub returns : goal.returns
-returns c = let P : List Event → Type 0 = λ es. IsLegal (record { start = 0; end = 10; events = es }) in subst P (sym c.in_ok-events.ensures) recursion-legal
+returns c = let P : List Event → Type 0 = λ es. IsLegal (record { start = 0; end = 10; events = es })
+    in subst P (sym c.in_ok-events.ensures) recursion-legal

@@ -5,4 +5,5 @@ use Rattle.event_model.proofs.Legal.{two_calls-legal}
 use Rattle.event_model.proofs.tests.two_calls.Goals as goal
 
 pub returns : goal.returns
-returns c = let P : List Event → Type 0 = λ es. IsLegal (record { start = 0; end = 500000000; events = es }) in subst P (sym c.in_ok-events.ensures) two_calls-legal
+returns c = let P : List Event → Type 0 = λ es. IsLegal (record { start = 0; end = 500000000; events = es })
+    in subst P (sym c.in_ok-events.ensures) two_calls-legal

@@ -8,5 +8,6 @@ use Rattle.msg_matrix.proofs.matrix_rows.matrix.Given as goal
 abbrev pub invariant-loop-m : goal.invariant-loop-m
 invariant-loop-m l =
     ((q : ℕ × ℕ) → row_at l.pairs q ≡ pair_row (sent_within l.a l.b (take l.m-index l.m-items)) q)
-    × (keys l.pairs ≡ with_message_below (greatest_container (sent_within l.a l.b l.m-items) + 1) (sent_within l.a l.b (take l.m-index l.m-items)))
+    × (keys l.pairs ≡ with_message_below (greatest_container (sent_within l.a l.b l.m-items) + 1)
+    (sent_within l.a l.b (take l.m-index l.m-items)))
     × ((q : ℕ × ℕ) → IsOfAtMost (row_at l.pairs q) l.m-index)

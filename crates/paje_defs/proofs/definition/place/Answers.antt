@@ -10,4 +10,5 @@ returns-in-Some-second_name-clause-place c =
     let second = option_and_then (place_of_name fields) (second_name c.args.event c.args.role) in
     c.position-in-Some-second_name.ensures.place
     ∙ (ap (option_and_then (place_of_name fields)) c.in-Some-second_name.ensures
-    ∙ ap (λ o. option_or o second) (c.in-None.ensures.place ∙ ap (λ name. position (is_named name) fields) c.first_name.ensures))
+    ∙ ap (λ o. option_or o second) (c.in-None.ensures.place ∙ ap (λ name. position (is_named name) fields)
+    c.first_name.ensures))

@@ -16,7 +16,12 @@ pub overflow_add-value : goal.overflow_add-value
 overflow_add-value c =
     let i = c.loop-byte.byte-index in
     let room : i < 19 = omega arith in
-    let digit : c.from.result < 10 = omega (arith, c.from.ensures, digit_below (get_or c.args.text.now i 0) (sym c.is_ascii_digit.ensures.value ∙ c.if-not-is_ascii_digit.false)) in
+    let digit : c.from.result < 10 = omega (
+      arith,
+      c.from.ensures,
+      digit_below (get_or c.args.text.now i 0)
+          (sym c.is_ascii_digit.ensures.value ∙ c.if-not-is_ascii_digit.false),
+    ) in
     let fits = value_fits c.loop-byte.value i c.from.result c.loop-byte.invariant.below room digit in
     omega arith
 
@@ -24,6 +29,7 @@ pub returns : goal.returns
 returns c =
     let text = c.args.text.now in
     let len : c.loop-byte.byte-index ≡ length text = omega arith in
-    all_decimal c.args.most text c.loop-byte.value (grind (arith, nat_tests, c.is_empty.ensures)) c.if-text-most.false
+    all_decimal c.args.most text c.loop-byte.value (grind (arith, nat_tests, c.is_empty.ensures))
+    c.if-text-most.false
     (λ k h. c.loop-byte.invariant.digits k (omega arith))
     (c.loop-byte.invariant.value ∙ ap number (take_all c.loop-byte.byte-index text (omega arith)))

@@ -14,7 +14,8 @@ pub returns-clause-lexed : goal.returns-clause-lexed
 returns-clause-lexed c =
     let line = c.args.line.now in
     told_of c.scan.result (scan Between c.start_of.result (drop c.start_of.result line)) (lexed line)
-    (ap (λ n. scan Between n (drop n line)) c.start_of.ensures.start ∙ sym (lexed_text line c.in_default.ensures.cases.1))
+    (ap (λ n. scan Between n (drop n line)) c.start_of.ensures.start ∙ sym
+    (lexed_text line c.in_default.ensures.cases.1))
     c.scan.ensures
 
 pub returns-clause-within : goal.returns-clause-within

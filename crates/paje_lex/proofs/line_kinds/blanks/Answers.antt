@@ -9,4 +9,5 @@ returns-then-not-is_blank-clause-len c =
 
 pub returns-clause-len : goal.returns-clause-len
 returns-clause-len c =
-    sym (prefix_len_is is_blank c.args.line.now _ 0 (omega arith) (λ k h. c.loop-at.invariant k (omega arith)) (λ h. absurd (omega arith)))
+    sym (prefix_len_is is_blank c.args.line.now _ 0 (omega arith) (λ k h. c.loop-at.invariant k (omega arith))
+    (λ h. absurd (omega arith)))

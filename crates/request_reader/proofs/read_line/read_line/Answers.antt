@@ -14,13 +14,20 @@ returns-then-not-has_room-clause-reads g c =
     let new = left_to_read c.skip_line.new.pending (g.I.Source.left c.skip_line.new.input) in
     let full : 4096 ≤ length c.bytes.line = grind (arith, c.has_room.ensures, c.if-not-has_room.true) in
     let long : Takes old mid BeginsLong =
-    takes-byte (λ s. s ≡ c.bytes.line) BeginsLong old (left_to_read c.bytes.pending (g.I.Source.left c.bytes.input)) mid
+    takes-byte (λ s. s ≡ c.bytes.line) BeginsLong old
+    (left_to_read c.bytes.pending (g.I.Source.left c.bytes.input)) mid
     c.in-Byte.byte c.bytes.invariant.taken c.in-Byte.ensures.gives
-    (λ s is. begins_long c.bytes.line s c.in-Byte.byte c.bytes.invariant.open_line full c.in-Byte.byte-test.1 is) in
+    (λ s is. begins_long c.bytes.line s c.in-Byte.byte c.bytes.invariant.open_line full c.in-Byte.byte-test.1
+    is) in
     elim c.match-skip_line.branch [
-      | in-Whole w ↦ rw w.result-is (takes-then BeginsLong IsWholeLine IsLongLine old mid new long w.in-Whole.ensures.skips long_whole)
-      | in-Cut w ↦ rw w.result-is
-          (takes-then BeginsLong HasNoNewline (λ t. (t ≢ []) × HasNoNewline t) old mid new long w.in-Cut.ensures.skips.0 long_cut, w.in-Cut.ensures.skips.1)
+      | in-Whole w ↦ rw w.result-is (takes-then BeginsLong IsWholeLine IsLongLine old mid new long
+          w.in-Whole.ensures.skips long_whole)
+      | in-Cut w ↦ rw w.result-is (
+        takes-then BeginsLong HasNoNewline (λ t. (t ≢ []) × HasNoNewline t) old mid new long
+            w.in-Cut.ensures.skips.0 long_cut,
+        w.in-Cut.ensures.skips.1,
+      )
       | in-Failed-skip_line w ↦ rw w.result-is
-          (takes-then BeginsLong HasNoNewline HasNoNewline old mid new long w.in-Failed-skip_line.ensures.skips (λ s t p q. (long_cut s t p q).1))
+          (takes-then BeginsLong HasNoNewline HasNoNewline old mid new long
+          w.in-Failed-skip_line.ensures.skips (λ s t p q. (long_cut s t p q).1))
     ]

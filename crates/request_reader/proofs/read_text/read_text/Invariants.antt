@@ -5,7 +5,8 @@ use Rattle.request_reader.proofs.read_text.read_text.Given as goal
 
 abbrev pub invariant-loop-pending : goal.invariant-loop-pending
 invariant-loop-pending g l = record {
-  taken : Takes (left_to_read l.fn.pending (g.I.Source.left l.fn.input)) (left_to_read l.pending (g.I.Source.left l.input)) (λ taken. taken ≡ l.text.items);
+  taken : Takes (left_to_read l.fn.pending (g.I.Source.left l.fn.input))
+      (left_to_read l.pending (g.I.Source.left l.input)) (λ taken. taken ≡ l.text.items);
   count : length l.text.items ≤ l.len;
   room : l.len ≤ vec_capacity l.text;
   later : g.I.Faults.faults l.fn.input ≤ g.I.Faults.faults l.input;

@@ -14,13 +14,15 @@ use Rattle.request_reader.proofs.reader.next_request.Goals as goal
 pub returns-in-Long-clause-comes : goal.returns-in-Long-clause-comes
 returns-in-Long-clause-comes g c =
     takes-so IsLongLine (λ taken. Spells taken Unreadable)
-    (left_to_read c.args.buf.now.pending (g.I.Source.left c.args.input.now)) (left_to_read c.read_line.new.pending (g.I.Source.left c.read_line.new.input))
+    (left_to_read c.args.buf.now.pending (g.I.Source.left c.args.input.now))
+    (left_to_read c.read_line.new.pending (g.I.Source.left c.read_line.new.input))
     c.in-Long.ensures.reads spells-long
 
 pub returns-in-Cut-clause-comes : goal.returns-in-Cut-clause-comes
 returns-in-Cut-clause-comes g c = (
   takes-so (λ t. (t ≢ []) × HasNoNewline t) (λ t. (t ≢ []) × (first_request t ≡ None))
-      (left_to_read c.args.buf.now.pending (g.I.Source.left c.args.input.now)) (left_to_read c.read_line.new.pending (g.I.Source.left c.read_line.new.input))
+      (left_to_read c.args.buf.now.pending (g.I.Source.left c.args.input.now))
+      (left_to_read c.read_line.new.pending (g.I.Source.left c.read_line.new.input))
       c.in-Cut.ensures.reads.0 (λ s h. (h.0, first_request-cut s h.1)),
   c.in-Cut.ensures.reads.1,
 )
@@ -28,7 +30,8 @@ returns-in-Cut-clause-comes g c = (
 pub returns-in-Failed-clause-comes : goal.returns-in-Failed-clause-comes
 returns-in-Failed-clause-comes g c =
     takes-so HasNoNewline (λ t. first_request t ≡ None)
-    (left_to_read c.args.buf.now.pending (g.I.Source.left c.args.input.now)) (left_to_read c.read_line.new.pending (g.I.Source.left c.read_line.new.input))
+    (left_to_read c.args.buf.now.pending (g.I.Source.left c.args.input.now))
+    (left_to_read c.read_line.new.pending (g.I.Source.left c.read_line.new.input))
     c.in-Failed.ensures.reads first_request-cut
 
 pub returns-in-Whole-read_text-clause-comes : goal.returns-in-Whole-read_text-clause-comes
@@ -81,27 +84,35 @@ returns-in-Failed-read_text-clause-comes g c =
 
 pub returns-in-Some-Flat-clause-comes : goal.returns-in-Some-Flat-clause-comes
 returns-in-Some-Flat-clause-comes g c =
-    let is : request_of c.read_line.new.line ≡ Some (line.Flat c.in-Some-Flat.id c.in-Some-Flat.field-0-1 c.in-Some-Flat.a c.in-Some-Flat.b) = cc in
-    takes-so (IsLine c.read_line.new.line) (λ t. Spells t (Flat c.in-Some-Flat.id c.in-Some-Flat.a c.in-Some-Flat.b))
-    (left_to_read c.args.buf.now.pending (g.I.Source.left c.args.input.now)) (left_to_read c.read_line.new.pending (g.I.Source.left c.read_line.new.input))
+    let is : request_of c.read_line.new.line ≡ Some
+    (line.Flat c.in-Some-Flat.id c.in-Some-Flat.field-0-1 c.in-Some-Flat.a c.in-Some-Flat.b) = cc in
+    takes-so (IsLine c.read_line.new.line)
+    (λ t. Spells t (Flat c.in-Some-Flat.id c.in-Some-Flat.a c.in-Some-Flat.b))
+    (left_to_read c.args.buf.now.pending (g.I.Source.left c.args.input.now))
+    (left_to_read c.read_line.new.pending (g.I.Source.left c.read_line.new.input))
     c.in-Whole.ensures.reads.0
-    (λ t eq. spells-flat c.read_line.new.line t c.in-Some-Flat.id c.in-Some-Flat.a c.in-Some-Flat.b c.in-Some-Flat.field-0-1 c.in-Whole.ensures.reads.1 is eq)
+    (λ t eq. spells-flat c.read_line.new.line t c.in-Some-Flat.id c.in-Some-Flat.a c.in-Some-Flat.b
+    c.in-Some-Flat.field-0-1 c.in-Whole.ensures.reads.1 is eq)
 
 pub returns-in-Some-Flat-clause-limits : goal.returns-in-Some-Flat-clause-limits
 returns-in-Some-Flat-clause-limits g c =
-    let is : request_of c.read_line.new.line ≡ Some (line.Flat c.in-Some-Flat.id c.in-Some-Flat.field-0-1 c.in-Some-Flat.a c.in-Some-Flat.b) = cc in
+    let is : request_of c.read_line.new.line ≡ Some
+    (line.Flat c.in-Some-Flat.id c.in-Some-Flat.field-0-1 c.in-Some-Flat.a c.in-Some-Flat.b) = cc in
     rw is at (request_of-limited c.read_line.new.line)
 
 pub returns-in-Some-Quit-clause-comes : goal.returns-in-Some-Quit-clause-comes
 returns-in-Some-Quit-clause-comes g c =
     let is : request_of c.read_line.new.line ≡ Some line.Quit = cc in
     takes-so (IsLine c.read_line.new.line) (λ t. Spells t Quit)
-    (left_to_read c.args.buf.now.pending (g.I.Source.left c.args.input.now)) (left_to_read c.read_line.new.pending (g.I.Source.left c.read_line.new.input))
+    (left_to_read c.args.buf.now.pending (g.I.Source.left c.args.input.now))
+    (left_to_read c.read_line.new.pending (g.I.Source.left c.read_line.new.input))
     c.in-Whole.ensures.reads.0 (λ t eq. spells-quit c.read_line.new.line t c.in-Whole.ensures.reads.1 is eq)
 
 pub returns-in-None-clause-comes : goal.returns-in-None-clause-comes
 returns-in-None-clause-comes g c =
     let is : request_of c.read_line.new.line ≡ None = cc in
     takes-so (IsLine c.read_line.new.line) (λ t. Spells t Unreadable)
-    (left_to_read c.args.buf.now.pending (g.I.Source.left c.args.input.now)) (left_to_read c.read_line.new.pending (g.I.Source.left c.read_line.new.input))
-    c.in-Whole.ensures.reads.0 (λ t eq. spells-unreadable c.read_line.new.line t c.in-Whole.ensures.reads.1 is eq)
+    (left_to_read c.args.buf.now.pending (g.I.Source.left c.args.input.now))
+    (left_to_read c.read_line.new.pending (g.I.Source.left c.read_line.new.input))
+    c.in-Whole.ensures.reads.0 (λ t eq. spells-unreadable c.read_line.new.line t c.in-Whole.ensures.reads.1 is
+    eq)

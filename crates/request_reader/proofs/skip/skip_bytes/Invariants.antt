@@ -4,6 +4,7 @@ use Rattle.request_reader.proofs.skip.skip_bytes.Given as goal
 
 abbrev pub invariant-bytes : goal.invariant-bytes
 invariant-bytes g l = record {
-  taken : Takes (left_to_read l.fn.pending (g.I.Source.left l.fn.input)) (left_to_read l.pending (g.I.Source.left l.input)) (λ taken. length taken ≡ l.counter);
+  taken : Takes (left_to_read l.fn.pending (g.I.Source.left l.fn.input))
+      (left_to_read l.pending (g.I.Source.left l.input)) (λ taken. length taken ≡ l.counter);
   later : g.I.Faults.faults l.fn.input ≤ g.I.Faults.faults l.input;
 }

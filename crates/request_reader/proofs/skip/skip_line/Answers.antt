@@ -12,7 +12,8 @@ returns-in-Byte-eq10-clause-skips g c =
     (left_to_read c.bytes.pending (g.I.Source.left c.bytes.input))
     (left_to_read c.next_byte.new.self (g.I.Source.left c.next_byte.new.input))
     c.in-Byte-eq10.field-0 c.bytes.invariant.taken c.in-Byte-eq10.ensures.gives
-    (λ s none. let newline : c.in-Byte-eq10.field-0 ≡ 10 = omega arith in (s, ap (λ b. s ++ b ∷ []) newline, none))
+    (λ s none. let newline : c.in-Byte-eq10.field-0 ≡ 10 = omega arith
+    in (s, ap (λ b. s ++ b ∷ []) newline, none))
 
 pub bytes-preserved : goal.bytes-preserved
 bytes-preserved g c = record {

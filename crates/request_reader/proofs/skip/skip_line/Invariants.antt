@@ -5,6 +5,7 @@ use Rattle.request_reader.proofs.skip.skip_line.Given as goal
 
 abbrev pub invariant-bytes : goal.invariant-bytes
 invariant-bytes g l = record {
-  taken : Takes (left_to_read l.fn.pending (g.I.Source.left l.fn.input)) (left_to_read l.pending (g.I.Source.left l.input)) HasNoNewline;
+  taken : Takes (left_to_read l.fn.pending (g.I.Source.left l.fn.input))
+      (left_to_read l.pending (g.I.Source.left l.input)) HasNoNewline;
   later : g.I.Faults.faults l.fn.input ≤ g.I.Faults.faults l.input;
 }

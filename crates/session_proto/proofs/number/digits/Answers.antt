@@ -7,7 +7,8 @@ use Rattle.session_proto.proofs.number.digits.Goals as goal
 
 pub returns-in-None : goal.returns-in-None
 returns-in-None c =
-    sym (digits_of-none c.args.word.now c.loop-c.c-index c.loop-c-test.true (rw c.loop-c.invariant.value at c.in-None.ensures.none))
+    sym (digits_of-none c.args.word.now c.loop-c.c-index c.loop-c-test.true
+    (rw c.loop-c.invariant.value at c.in-None.ensures.none))
 
 pub loop-c-preserved : goal.loop-c-preserved
 loop-c-preserved c =
@@ -21,4 +22,5 @@ loop-c-preserved c =
     }
 
 pub returns : goal.returns
-returns c = digits_of-all c.args.word.now c.loop-c.c-index c.loop-c.n (omega arith) c.loop-c.invariant.fits c.loop-c.invariant.digits c.loop-c.invariant.value
+returns c = digits_of-all c.args.word.now c.loop-c.c-index c.loop-c.n (omega arith) c.loop-c.invariant.fits
+    c.loop-c.invariant.digits c.loop-c.invariant.value

@@ -14,4 +14,5 @@ loop-digit-preserved c =
     let digit = digit_at digits i c.requires.digits (omega arith) in
     let is : c.from.result ≡ get_or digits i 0 - 48 = grind arith in
     let few : c.from.result ≤ 9 = omega arith in
-    number_more digits i c.loop-digit.n c.from.result (omega arith) c.loop-digit.invariant.0 c.loop-digit.invariant.1 is few
+    number_more digits i c.loop-digit.n c.from.result (omega arith) c.loop-digit.invariant.0
+    c.loop-digit.invariant.1 is few

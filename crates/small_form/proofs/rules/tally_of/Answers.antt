@@ -13,12 +13,26 @@ pub loop-line-preserved : goal.loop-line-preserved
 loop-line-preserved c =
     elim c.if-is_of.branch [
       | then-is_of w ↦ record {
-        counted = tally_in c.args.time c.args.name.now c.args.lines.now c.loop-line.line-index _ c.loop-line.found c.if-is_of.found (omega arith) c.loop-line.invariant.counted w.if-is_of.ensures (rw w.found-is w.counted-found.ensures);
-        entered = grind (arith, nat_tests, ap (λ t. t.entered) w.found-is, ap (λ t. t.entered) w.counted-found.ensures);
-        left = grind (arith, nat_tests, ap (λ t. t.left) w.found-is, ap (λ t. t.left) w.counted-found.ensures);
+        counted = tally_in c.args.time c.args.name.now c.args.lines.now c.loop-line.line-index _
+            c.loop-line.found c.if-is_of.found (omega arith) c.loop-line.invariant.counted w.if-is_of.ensures
+            (rw w.found-is w.counted-found.ensures);
+        entered = grind (
+          arith,
+          nat_tests,
+          ap (λ t. t.entered) w.found-is,
+          ap (λ t. t.entered) w.counted-found.ensures,
+        );
+        left = grind (
+          arith,
+          nat_tests,
+          ap (λ t. t.left) w.found-is,
+          ap (λ t. t.left) w.counted-found.ensures,
+        );
       }
       | else-is_of w ↦ record {
-        counted = tally_out c.args.time c.args.name.now c.args.lines.now c.loop-line.line-index _ c.loop-line.found c.if-is_of.found (omega arith) c.loop-line.invariant.counted w.if-is_of.ensures w.found-is;
+        counted = tally_out c.args.time c.args.name.now c.args.lines.now c.loop-line.line-index _
+            c.loop-line.found c.if-is_of.found (omega arith) c.loop-line.invariant.counted w.if-is_of.ensures
+            w.found-is;
         entered = omega (arith, ap (λ t. t.entered) w.found-is);
         left = omega (arith, ap (λ t. t.left) w.found-is);
       }

@@ -5,4 +5,6 @@ use Rattle.small_form.specs.View.{views}
 use Rattle.small_form.proofs.trace.events_of.Given as goal
 
 abbrev pub invariant-loop-line : goal.invariant-loop-line
-invariant-loop-line l = l.events.items ++ filter_map (event_of l.functions) (of_container l.name (views (drop l.line-index l.lines))) ≡ filter_map (event_of l.functions) (of_container l.name (views l.lines))
+invariant-loop-line l = l.events.items ++ filter_map (event_of l.functions)
+    (of_container l.name (views (drop l.line-index l.lines))) ≡ filter_map (event_of l.functions)
+    (of_container l.name (views l.lines))

@@ -5,7 +5,8 @@ use Rattle.trace_session.proofs.load.publish_all.Given as goal
 
 abbrev pub invariant-loop-s : goal.invariant-loop-s
 invariant-loop-s g l = record {
-  loading : Loading g.H.Hall.alone (g.H.Hall.seat l.fn.hall) (g.H.Hall.seat l.hall) l.fn.pass.id l.fn.tracks l.yielded l.pass;
+  loading : Loading g.H.Hall.alone (g.H.Hall.seat l.fn.hall) (g.H.Hall.seat l.hall) l.fn.pass.id l.fn.tracks
+      l.yielded l.pass;
   rest : l.yielded ++ into_iter_items l.s-iterator ≡ l.fn.tracks;
   limits : g.H.Hall.limits l.hall ≡ g.H.Hall.limits l.fn.hall;
 }

@@ -10,6 +10,8 @@ pub profile_over-requires-clause-few : goal.profile_over-requires-clause-few
 profile_over-requires-clause-few g c =
     let info = arc_value c.in-Ok.info in
     let seen = (g.H.Hall.seat c.args.hall.now).seen in
-    let legal = legal_info_in_front seen c.args.pin.now.place (first_id c.args.pin.now.ids) info (g.met.H.Hall.legal c.args.hall.now) c.in-Ok.ensures.info in
-    let count = c.requires.tracks ∙ ap (λ (o : Option TraceInfo). option_map_or (λ (i : TraceInfo). length i.names.tracks) o 0) c.in-Ok.ensures.info in
+    let legal = legal_info_in_front seen c.args.pin.now.place (first_id c.args.pin.now.ids) info
+    (g.met.H.Hall.legal c.args.hall.now) c.in-Ok.ensures.info in
+    let count = c.requires.tracks ∙ ap (λ (o : Option TraceInfo). option_map_or
+    (λ (i : TraceInfo). length i.names.tracks) o 0) c.in-Ok.ensures.info in
     omega (arith, count, legal.tracks)

@@ -18,26 +18,41 @@ returns-in-Pinned g c =
     let new = g.H.Hall.seat c.unpin.new.self in
     let pin = c.in-Pinned.pin in
     let r = c.pinned_profile-reply.result in
-    let asked = subst (λ (x : AskAnswer). Asks g.H.Hall.alone old mid (One c.args.id) x) c.in-Pinned.is c.ask.ensures.answer in
-    let told = subst (λ (x : AskAnswer). AskRecords (g.H.Hall.limits c.args.hall.now) (g.H.Hall.limits c.ask.new.self) x) c.in-Pinned.is c.ask.ensures.records in
+    let asked = subst (λ (x : AskAnswer). Asks g.H.Hall.alone old mid (One c.args.id) x) c.in-Pinned.is
+    c.ask.ensures.answer in
+    let told = subst (λ (x : AskAnswer). AskRecords (g.H.Hall.limits c.args.hall.now)
+    (g.H.Hall.limits c.ask.new.self) x) c.in-Pinned.is c.ask.ensures.records in
     let same = c.pinned_profile-reply.ensures.seat in
     let gone = subst (λ (s : Seat). Removes s.pins new.pins (pin_view pin)) same c.unpin.ensures.gone in
     let none = subst (λ (s : Seat). MakesNoEntry s new) same c.unpin.ensures.entries in
-    let seen = subst (λ (i : ℕ). (r ≡ profile_reply (length (streams_of (take pin.place mid.seen) i)) (functions_of (take pin.place mid.seen) i) pin.place (flat (streams_of (take pin.place mid.seen) i) c.args.a c.args.b)) ⊎ (r ≡ reply.No no.Memory)) (ap first_id asked.2) c.pinned_profile-reply.ensures.reply in
-    Serves-seen g.H.Hall.alone old mid new (g.H.Hall.limits c.args.hall.now) (g.H.Hall.limits c.unpin.new.self) c.args.id c.args.a c.args.b pin r c.requires.rest asked gone (c.unpin.ensures.passes ∙ ap (λ (s : Seat). s.passes) same) none (c.unpin.ensures.records ∙ c.pinned_profile-reply.ensures.records ∙ told) seen
+    let seen = subst (λ (i : ℕ). (r ≡ profile_reply (length (streams_of (take pin.place mid.seen) i))
+    (functions_of (take pin.place mid.seen) i) pin.place
+    (flat (streams_of (take pin.place mid.seen) i) c.args.a c.args.b)) ⊎ (r ≡ reply.No no.Memory))
+    (ap first_id asked.2) c.pinned_profile-reply.ensures.reply in
+    Serves-seen g.H.Hall.alone old mid new (g.H.Hall.limits c.args.hall.now)
+    (g.H.Hall.limits c.unpin.new.self) c.args.id c.args.a c.args.b pin r c.requires.rest asked gone
+    (c.unpin.ensures.passes ∙ ap (λ (s : Seat). s.passes) same) none
+    (c.unpin.ensures.records ∙ c.pinned_profile-reply.ensures.records ∙ told) seen
 
 pub returns-in-Unknown : goal.returns-in-Unknown
 returns-in-Unknown g c =
     let old = g.H.Hall.seat c.args.hall.now in
     let mid = g.H.Hall.seat c.ask.new.self in
-    let asked = subst (λ (x : AskAnswer). Asks g.H.Hall.alone old mid (One c.args.id) x) c.in-Unknown.is c.ask.ensures.answer in
-    let told = subst (λ (x : AskAnswer). AskRecords (g.H.Hall.limits c.args.hall.now) (g.H.Hall.limits c.ask.new.self) x) c.in-Unknown.is c.ask.ensures.records in
-    Serves-unknown g.H.Hall.alone old mid (g.H.Hall.limits c.args.hall.now) (g.H.Hall.limits c.ask.new.self) c.args.id c.args.a c.args.b c.in-Unknown.unknown c.in-Unknown.next c.in-Unknown.place c.requires.rest asked told
+    let asked = subst (λ (x : AskAnswer). Asks g.H.Hall.alone old mid (One c.args.id) x) c.in-Unknown.is
+    c.ask.ensures.answer in
+    let told = subst (λ (x : AskAnswer). AskRecords (g.H.Hall.limits c.args.hall.now)
+    (g.H.Hall.limits c.ask.new.self) x) c.in-Unknown.is c.ask.ensures.records in
+    Serves-unknown g.H.Hall.alone old mid (g.H.Hall.limits c.args.hall.now) (g.H.Hall.limits c.ask.new.self)
+    c.args.id c.args.a c.args.b c.in-Unknown.unknown c.in-Unknown.next c.in-Unknown.place c.requires.rest
+    asked told
 
 pub returns-in-Spent : goal.returns-in-Spent
 returns-in-Spent g c =
     let old = g.H.Hall.seat c.args.hall.now in
     let mid = g.H.Hall.seat c.ask.new.self in
-    let asked = subst (λ (x : AskAnswer). Asks g.H.Hall.alone old mid (One c.args.id) x) c.in-Spent.is c.ask.ensures.answer in
-    let told = subst (λ (x : AskAnswer). AskRecords (g.H.Hall.limits c.args.hall.now) (g.H.Hall.limits c.ask.new.self) x) c.in-Spent.is c.ask.ensures.records in
-    Serves-no_place g.H.Hall.alone old mid (g.H.Hall.limits c.args.hall.now) (g.H.Hall.limits c.ask.new.self) c.args.id c.args.a c.args.b c.in-Spent.n c.requires.rest asked told
+    let asked = subst (λ (x : AskAnswer). Asks g.H.Hall.alone old mid (One c.args.id) x) c.in-Spent.is
+    c.ask.ensures.answer in
+    let told = subst (λ (x : AskAnswer). AskRecords (g.H.Hall.limits c.args.hall.now)
+    (g.H.Hall.limits c.ask.new.self) x) c.in-Spent.is c.ask.ensures.records in
+    Serves-no_place g.H.Hall.alone old mid (g.H.Hall.limits c.args.hall.now) (g.H.Hall.limits c.ask.new.self)
+    c.args.id c.args.a c.args.b c.in-Spent.n c.requires.rest asked told

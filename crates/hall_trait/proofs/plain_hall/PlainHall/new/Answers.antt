@@ -5,7 +5,11 @@ use Rattle.hall_trait.proofs.Steps.{kept_none}
 use Rattle.hall_trait.proofs.plain_hall.PlainHall.new.Goals as goal
 
 pub invariant_of-result : goal.invariant_of-result
-invariant_of-result c = record { kept = kept_none _ c.new.ensures; space = omega arith; held = λ pin none. absurd cc }
+invariant_of-result c = record {
+  kept = kept_none _ c.new.ensures;
+  space = omega arith;
+  held = λ pin none. absurd cc;
+}
 
 pub returns : goal.returns
 unfolding opened_ids

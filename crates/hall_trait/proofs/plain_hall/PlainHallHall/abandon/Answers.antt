@@ -22,7 +22,13 @@ pub overflow_sub-self : goal.overflow_sub-self
 overflow_sub-self g c =
     let was = c.args.self.now in
     let facts = pass_facts _ was.owed was.opened was.live c.args.pass was.kept c.requires.has in
-    omega (arith, c.from.ensures, c.left_of.ensures, left_is_rest _ c.args.pass facts, owes _ was.owed was.opened was.live c.args.pass.id was.kept facts.loading)
+    omega (
+      arith,
+      c.from.ensures,
+      c.left_of.ensures,
+      left_is_rest _ c.args.pass facts,
+      owes _ was.owed was.opened was.live c.args.pass.id was.kept facts.loading,
+    )
 
 pub overflow_sub-self-2 : goal.overflow_sub-self-2
 overflow_sub-self-2 g c =
@@ -35,9 +41,11 @@ invariant_of-self g c =
     let was = c.args.self.now in
     let facts = pass_facts _ was.owed was.opened was.live c.args.pass was.kept c.requires.has in
     let owed = owes _ was.owed was.opened was.live c.args.pass.id was.kept facts.loading in
-    let left : c.from.result + 1 ≡ promise_of (history was.past) c.args.pass.id = ap (λ n. n + 1) (c.from.ensures ∙ c.left_of.ensures ∙ left_is_rest _ c.args.pass facts) in
+    let left : c.from.result + 1 ≡ promise_of (history was.past) c.args.pass.id =
+    ap (λ n. n + 1) (c.from.ensures ∙ c.left_of.ensures ∙ left_is_rest _ c.args.pass facts) in
     record {
-      kept = rw left (kept_dropped _ _ was.owed was.opened was.live c.args.pass.id c.push-place.ensures.seen facts.loading was.kept);
+      kept = rw left (kept_dropped _ _ was.owed was.opened was.live c.args.pass.id c.push-place.ensures.seen
+          facts.loading was.kept);
       space = c.push-place.ensures.space (was.owed - (c.from.result + 1)) (omega (arith, was.space, owed));
       held = held_more _ _ _ was.pin c.push-place.ensures.seen was.held;
     }
@@ -46,4 +54,5 @@ pub returns-clause-answer : goal.returns-clause-answer
 returns-clause-answer g c =
     let was = c.args.self.now in
     let facts = pass_facts _ was.owed was.opened was.live c.args.pass was.kept c.requires.has in
-    dropped_answer _ _ was.owed was.opened was.live _ c.args.pass c.push-place.result c.push-place.ensures.seen c.push-place.ensures.place was.kept facts
+    dropped_answer _ _ was.owed was.opened was.live _ c.args.pass c.push-place.result
+    c.push-place.ensures.seen c.push-place.ensures.place was.kept facts

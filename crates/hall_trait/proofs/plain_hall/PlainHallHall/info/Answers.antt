@@ -13,7 +13,8 @@ unreachable-requires g c =
     let pin = c.args.pin.now in
     let told = pin_told (history was.past) was.pin (pin_view pin) c.args.which was.held c.requires.has in
     let same = same_info (history was.past) pin.place (id_at pin.ids c.args.which) told in
-    let none : info_of (history was.past) (id_at pin.ids c.args.which) ≡ None = ap (info_of (history was.past)) (sym c.id_of.ensures) ∙ sym c.in-None.ensures in
+    let none : info_of (history was.past) (id_at pin.ids c.args.which) ≡ None =
+    ap (info_of (history was.past)) (sym c.id_of.ensures) ∙ sym c.in-None.ensures in
     false≢true (sym (ap is_some (same ∙ none)) ∙ told)
 
 pub returns-in-Ok-clause-info : goal.returns-in-Ok-clause-info
@@ -22,4 +23,5 @@ returns-in-Ok-clause-info g c =
     let pin = c.args.pin.now in
     let told = pin_told (history was.past) was.pin (pin_view pin) c.args.which was.held c.requires.has in
     let same = same_info (history was.past) pin.place (id_at pin.ids c.args.which) told in
-    same ∙ ap (info_of (history was.past)) (sym c.id_of.ensures) ∙ sym c.in-Some.ensures ∙ ap Some (sym c.in-Ok.ensures.cases)
+    same ∙ ap (info_of (history was.past)) (sym c.id_of.ensures) ∙ sym c.in-Some.ensures ∙ ap Some
+    (sym c.in-Ok.ensures.cases)

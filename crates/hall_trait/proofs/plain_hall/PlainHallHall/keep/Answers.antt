@@ -20,7 +20,12 @@ pub push-place-requires-clause-fits : goal.push-place-requires-clause-fits
 push-place-requires-clause-fits g c =
     let was = c.args.self.now in
     let facts = pass_facts _ was.owed was.opened was.live c.args.pass.now was.kept c.requires.has in
-    omega (arith, was.kept.fits, owes _ was.owed was.opened was.live c.args.pass.now.id was.kept facts.loading)
+    omega (
+      arith,
+      was.kept.fits,
+      owes _ was.owed was.opened was.live c.args.pass.now.id was.kept
+          facts.loading,
+    )
 
 pub overflow_sub-self : goal.overflow_sub-self
 overflow_sub-self g c =
@@ -39,9 +44,12 @@ invariant_of-self g c =
     let facts = pass_facts _ was.owed was.opened was.live pass was.kept c.requires.has in
     let owed = owes _ was.owed was.opened was.live pass.id was.kept facts.loading in
     let P : ℕ → Type 0 = λ t. FitsTrack (history was.past) pass.id t c.args.s in
-    let fits = subst P (same_track pass.state c.requires.fits.0 c.in-Straight.track c.requires.fits.1 c.in-Straight.is) c.requires.fits.2 in
+    let fits = subst P (same_track pass.state c.requires.fits.0 c.in-Straight.track c.requires.fits.1
+    c.in-Straight.is) c.requires.fits.2 in
     record {
-      kept = kept_published _ _ was.owed was.opened was.live pass.id c.in-Straight.track c.args.s c.push-place.ensures.seen facts.loading fits (next_is_count _ pass c.in-Straight.track facts c.in-Straight.is) was.kept;
+      kept = kept_published _ _ was.owed was.opened was.live pass.id c.in-Straight.track c.args.s
+          c.push-place.ensures.seen facts.loading fits
+          (next_is_count _ pass c.in-Straight.track facts c.in-Straight.is) was.kept;
       space = c.push-place.ensures.space (was.owed - 1) (omega (arith, was.space, owed));
       held = held_more _ _ _ was.pin c.push-place.ensures.seen was.held;
     }
@@ -51,16 +59,27 @@ overflow_add-track g c =
     let was = c.args.self.now in
     let pass = c.args.pass.now in
     let fits = c.requires.fits.2 in
-    omega (arith, fits.2, (info_legal (history was.past) pass.id fits.0 was.kept.legal fits.1).tracks, same_track pass.state c.requires.fits.0 c.in-Straight.track c.requires.fits.1 c.in-Straight.is)
+    omega (
+      arith,
+      fits.2,
+      (info_legal (history was.past) pass.id fits.0 was.kept.legal fits.1).tracks,
+      same_track pass.state c.requires.fits.0 c.in-Straight.track c.requires.fits.1 c.in-Straight.is,
+    )
 
 pub returns-clause-answer : goal.returns-clause-answer
 returns-clause-answer g c track next =
     let was = c.args.self.now in
     let pass = c.args.pass.now in
     let facts = pass_facts _ was.owed was.opened was.live pass was.kept c.requires.has in
-    let same : c.in-Straight.track ≡ track = same_track pass.state c.in-Straight.track track c.in-Straight.is next in
-    let state : c.state_of-pass.result ≡ state_at (track + 1) pass.to = c.state_of-pass.ensures ∙ ap (λ t. state_at (t + 1) pass.to) same in
+    let same : c.in-Straight.track ≡ track = same_track pass.state c.in-Straight.track track c.in-Straight.is
+    next in
+    let state : c.state_of-pass.result ≡ state_at (track + 1) pass.to = c.state_of-pass.ensures ∙ ap
+    (λ t. state_at (t + 1) pass.to) same in
     let now : LoadPass = record pass { state = c.state_of-pass.result } in
-    let on : now ≡ advanced pass track = ap (λ (s : PassState). let p : LoadPass = record pass { state = s } in p) state in
-    let seen : history c.push-place.new.self ≡ history was.past ++ Published pass.id track c.args.s ∷ [] = c.push-place.ensures.seen ∙ ap (λ t. history was.past ++ Published pass.id t c.args.s ∷ []) same in
-    published_answer _ _ was.owed was.opened was.live _ pass now track c.args.s c.push-place.result seen c.push-place.ensures.place on next was.kept facts
+    let on : now ≡ advanced pass track = ap (λ (s : PassState). let p : LoadPass = record pass { state = s }
+    in p) state in
+    let seen : history c.push-place.new.self ≡ history was.past ++ Published pass.id track c.args.s
+    ∷ [] = c.push-place.ensures.seen ∙ ap (λ t. history was.past ++ Published pass.id t c.args.s ∷ [])
+    same in
+    published_answer _ _ was.owed was.opened was.live _ pass now track c.args.s c.push-place.result seen
+    c.push-place.ensures.place on next was.kept facts

@@ -28,7 +28,8 @@ invariant_of-self g c =
     let facts = pass_facts _ was.owed was.opened was.live c.args.pass was.kept c.requires.has in
     let owed = owes _ was.owed was.opened was.live c.args.pass.id was.kept facts.loading in
     record {
-      kept = kept_sealed _ _ was.owed was.opened was.live c.args.pass.id c.push-place.ensures.seen facts.loading (whole_is_all _ c.args.pass facts c.requires.whole) was.kept;
+      kept = kept_sealed _ _ was.owed was.opened was.live c.args.pass.id c.push-place.ensures.seen
+          facts.loading (whole_is_all _ c.args.pass facts c.requires.whole) was.kept;
       space = c.push-place.ensures.space (was.owed - 1) (omega (arith, was.space, owed));
       held = held_more _ _ _ was.pin c.push-place.ensures.seen was.held;
     }
@@ -37,4 +38,5 @@ pub returns-clause-answer : goal.returns-clause-answer
 returns-clause-answer g c =
     let was = c.args.self.now in
     let facts = pass_facts _ was.owed was.opened was.live c.args.pass was.kept c.requires.has in
-    sealed_answer _ _ was.owed was.opened was.live _ c.args.pass c.push-place.result c.push-place.ensures.seen c.push-place.ensures.place was.kept facts
+    sealed_answer _ _ was.owed was.opened was.live _ c.args.pass c.push-place.result c.push-place.ensures.seen
+    c.push-place.ensures.place was.kept facts

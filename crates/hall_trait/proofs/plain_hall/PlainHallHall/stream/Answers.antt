@@ -9,4 +9,6 @@ pub returns-clause-fits : goal.returns-clause-fits
 returns-clause-fits c =
     let es = history c.args.self.now.past in
     let place = c.args.pin.now.place in
-    given_fits (take place es) _ c.args.track c.stream.result (legal_before es place c.args.self.now.kept.legal) (c.stream.ensures ∙ ap (λ (id : ℕ). stream_of (take place es) id c.args.track) c.first_of.ensures)
+    given_fits (take place es) _ c.args.track c.stream.result
+    (legal_before es place c.args.self.now.kept.legal)
+    (c.stream.ensures ∙ ap (λ (id : ℕ). stream_of (take place es) id c.args.track) c.first_of.ensures)

@@ -13,4 +13,7 @@ returns c = (
 )
 
 pub invariant_of-result : goal.invariant_of-result
-invariant_of-result c = record { needed = has_needed c.args.self.now (words_in c.args.words.now) c.texts.result c.texts.ensures c.requires.enough c.requires.whole }
+invariant_of-result c = record {
+  needed = has_needed c.args.self.now (words_in c.args.words.now)
+      c.texts.result c.texts.ensures c.requires.enough c.requires.whole;
+}

@@ -9,4 +9,5 @@ pub returns-clause-whole : goal.returns-clause-whole
 returns-clause-whole c =
     let entries = c.args.self.now.complete.entries in
     let found : option_copied c.get.result ≡ definition_of entries c.args.number = search rules in
-    subst (λ o. IfSome o IsWhole) (sym found) (lookup_whole entries (λ k. nat_eq c.args.number k) c.args.self.now.whole)
+    subst (λ o. IfSome o IsWhole) (sym found)
+    (lookup_whole entries (λ k. nat_eq c.args.number k) c.args.self.now.whole)

@@ -8,7 +8,9 @@ pub returns : goal.returns
 returns c =
     let words = words_of c.args.line.now c.args.tokens.now in
     let old = definitions_of c.args.self.now in
-    let begun : begins words ≡ false = sym (c.begins.ensures ∙ ap begins c.new-words.ensures) ∙ c.if-begins.false in
+    let begun : begins words ≡ false = sym (c.begins.ensures ∙ ap begins c.new-words.ensures) ∙
+    c.if-begins.false in
     let ended : ends words ≡ false = sym (c.ends.ensures ∙ ap ends c.new-words.ensures) ∙ c.if-ends.false in
     rw (begun, ended)
-    (subst (λ words. Steps old (definitions_of c.field.new.self) c.field.result (field_reason old.begun words) (after_field old words)) c.new-words.ensures c.field.ensures)
+    (subst (λ words. Steps old (definitions_of c.field.new.self) c.field.result (field_reason old.begun words)
+    (after_field old words)) c.new-words.ensures c.field.ensures)

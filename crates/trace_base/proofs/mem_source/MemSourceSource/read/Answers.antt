@@ -8,5 +8,9 @@ returns-clause-read c =
     let n : ℕ = c.min-n.result in
     let copied = c.copy_from_slice.new.self in
     let len : length copied ≡ n = grind (arith, common_steps) in
-    let bytes : c.as_slice-bytes.result.now ≡ c.args.self.now.bytes = cc in
-    (omega arith, grind (arith, common_steps), left-given _ copied _ c.args.self.now.given n len (rw (← bytes) c.copy_from_slice.ensures.after))
+    let bytes : c.as_slice-bytes.result.now ≡ c.args.self.now.bytes = cc in (
+      omega arith,
+      grind (arith, common_steps),
+      left-given _ copied _ c.args.self.now.given n len
+          (rw (← bytes) c.copy_from_slice.ensures.after),
+    )
