@@ -6,7 +6,7 @@ use Rattle.std.proofs.lemmas.Bool.{and_parts, leb-true, cases_eq, cases_lt, true
 use Rattle.std.proofs.lemmas.List.{take_all, get_or_default}
 use Rattle.std.proofs.lemmas.List.Sorted.{IsNonDecreasingBy-from_all_adjacent}
 use Rattle.std.proofs.lemmas.Option.{get_or_from_slice_get, slice_get_within}
-use Rattle.trace_base.specs.Rows.{two_calls, recursion, no_length}
+use Rattle.trace_base.specs.Examples.{two_calls, recursion, no_length}
 use Rattle.event_model.proofs.Times.{length-moments}
 use Rattle.trace_base.specs.Stream.{is_enter, stack_after, moments, IsLegal}
 use Rattle.trace_base.specs.declared.stream.Event.{Event}

@@ -6,7 +6,7 @@ pub mod FieldType
 pub mod Lines
 pub mod Numbers
 pub mod Role
-pub mod Rows
+pub mod Examples
 pub mod Table
 pub mod Texts
 pub mod Words

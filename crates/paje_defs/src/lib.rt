@@ -7,13 +7,13 @@ mod definition;
 mod event;
 mod event_fault;
 mod event_name;
+mod examples;
 mod field;
 mod field_name;
 mod field_type;
 mod fields;
 mod numbers;
 mod role;
-mod rows;
 mod table;
 mod texts;
 mod words;
@@ -21,12 +21,12 @@ mod words;
 pub use def_fault::DefFault;
 pub use event_fault::EventFault;
 pub use event_name::EventName;
+pub use examples::{
+    begun_examples, definition_examples, event_examples, first_refused_examples, missing_examples,
+    name_examples, number_examples, order_examples, place_examples, refusal_examples,
+};
 pub use fields::Fields;
 pub use role::Role;
-pub use rows::{
-    begun_rows, definition_rows, event_rows, first_refused_rows, missing_rows, name_rows,
-    number_rows, order_rows, place_rows, refusal_rows,
-};
 pub use table::DefTable;
 
 #[cfg(test)]

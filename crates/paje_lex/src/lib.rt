@@ -4,19 +4,19 @@
 mod date_fault;
 mod dates;
 mod digits;
+mod examples;
 mod lex_fault;
 mod line;
 mod line_kinds;
-mod rows;
 mod state;
 mod token;
 
 pub use date_fault::DateFault;
 pub use dates::date;
+pub use examples::{date_examples, line_examples, token_examples};
 pub use lex_fault::LexFault;
 pub use line::tokens;
 pub use line_kinds::{is_definition, is_skipped};
-pub use rows::{date_rows, line_rows, token_rows};
 pub use token::Token;
 
 #[cfg(test)]

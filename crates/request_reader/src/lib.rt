@@ -2,6 +2,7 @@
 #![tactic(auto)]
 
 mod buffer;
+mod examples;
 mod incoming;
 mod laws;
 mod line;
@@ -9,7 +10,6 @@ mod pending;
 mod read_line;
 mod read_text;
 mod reader;
-mod rows;
 mod skip;
 #[cfg(test)]
 mod tests;

@@ -1,10 +1,10 @@
 //! Requests and replies as text.
 #![tactic(auto)]
 
+mod examples;
 mod number;
 mod reply;
 mod request;
-mod rows;
 #[cfg(test)]
 mod tests;
 mod words;

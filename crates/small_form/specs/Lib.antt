@@ -1,5 +1,5 @@
 pub mod Line
-pub mod Rows
+pub mod Examples
 pub mod Rules
 pub mod SmallForm
 pub mod Tallies

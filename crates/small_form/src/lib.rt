@@ -17,11 +17,11 @@
 
 mod build;
 mod bytes;
+mod examples;
 mod fault;
 mod line;
 mod lines;
 mod reader;
-mod rows;
 mod rules;
 mod tally;
 mod trace;

@@ -1,5 +1,5 @@
 pub mod Flat
-pub mod FoldRows
+pub mod FoldExamples
 pub mod Info
 pub mod Matrix
 pub mod MemSink
@@ -7,7 +7,7 @@ pub mod MemSource
 pub mod Messages
 pub mod Outside
 pub mod Paths
-pub mod Rows
+pub mod Examples
 pub mod Sink
 pub mod Source
 pub mod Stream

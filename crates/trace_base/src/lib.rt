@@ -3,8 +3,9 @@
 #![tactic(auto)]
 
 mod asks;
+mod examples;
 mod faults;
-mod fold_rows;
+mod fold_examples;
 mod limits;
 mod matrix;
 mod mem_sink;
@@ -14,7 +15,6 @@ mod messages;
 mod name;
 mod names;
 mod profile;
-mod rows;
 mod seq;
 mod sink;
 mod source;

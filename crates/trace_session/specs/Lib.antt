@@ -1,7 +1,7 @@
 pub mod Load
 pub mod Output
 pub mod Replies
-pub mod Rows
+pub mod Examples
 pub mod Run
 pub mod Serve
 pub mod Served

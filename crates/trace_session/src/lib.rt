@@ -3,11 +3,11 @@
 
 mod answer;
 mod buffer;
+mod examples;
 mod load;
 mod output;
 mod profile;
 mod program;
-mod rows;
 mod serve;
 mod sessions;
 mod text;

@@ -10,7 +10,7 @@ use crate::lex_fault::LexFault;
 
 /// Dates and their nanoseconds.
 #[tactic(auto, unfolding(crate::specs::DateReading::parts_of, crate::specs::DateReading::exponent_of))]
-pub fn date_rows()
+pub fn date_examples()
     ensures values { map date_of (codes "1e-05" ∷ codes "0.0000000019" ∷ codes ".5" ∷ codes "5."
         ∷ codes "-0.0" ∷ codes "+2" ∷ codes "4611686018.427387904" ∷ codes "0e30" ∷ [])
         ≡ Ok 10000 ∷ Ok 1 ∷ Ok 500000000 ∷ Ok 5000000000 ∷ Ok 0 ∷ Ok 2000000000 ∷ Ok 4611686018427387904
@@ -27,7 +27,7 @@ pub fn date_rows()
 {}
 
 /// Lines and where their tokens stand.
-pub fn token_rows()
+pub fn token_examples()
     ensures spaced { Lexes (codes "4 0.1\tS  p0 ") (Ok (token 0 1 ∷ token 2 5 ∷ token 6 7 ∷ token 9 11 ∷ [])) }
     ensures definition { Lexes (codes " \t%EventDef X 4") (Ok (token 3 11 ∷ token 12 13 ∷ token 14 15 ∷ [])) }
     ensures field { Lexes (codes "% Time date") (Ok (token 2 6 ∷ token 7 11 ∷ [])) }
@@ -47,7 +47,7 @@ pub fn token_rows()
 {}
 
 /// Which lines are skipped, and which define something.
-pub fn line_rows()
+pub fn line_examples()
     ensures skipped { map is_skipped_line ([] ∷ codes " \t" ∷ codes "\t# a" ∷ codes "a #" ∷ codes "%" ∷ [])
         ≡ true ∷ true ∷ true ∷ false ∷ false ∷ [] }
     ensures definitions { map is_definition_line ([] ∷ codes " \t" ∷ codes " \t%a" ∷ codes "a %" ∷ codes "# %"

@@ -1,11 +1,11 @@
 //! The definitions of timelines, call-tree profiles, messages and matrices, computed on small inputs. Each
 //! clause is the equation; the bodies are empty.
 ghost use Rattle.std.specs.Prelude.{◌≡◌, [], ◌∷◌};
-ghost use Rattle.trace_base.specs.FoldRows.{no_time_under, both_ways, three_starts, crossed, end_first};
+ghost use Rattle.trace_base.specs.FoldExamples.{no_time_under, both_ways, three_starts, crossed, end_first};
 ghost use Rattle.trace_base.specs.Matrix.{matrix_of};
 ghost use Rattle.trace_base.specs.Messages.{table_of};
 ghost use Rattle.trace_base.specs.Paths.{paths};
-ghost use Rattle.trace_base.specs.Rows.{two_calls, recursion, no_length};
+ghost use Rattle.trace_base.specs.Examples.{two_calls, recursion, no_length};
 ghost use Rattle.trace_base.specs.Timeline.{timeline};
 
 /// The timeline of main calling f in five pixels, in one with a tie, and in three that are a nanosecond each.

@@ -3,7 +3,7 @@ use Rattle.std.specs.Str.{is_utf8, chars}
 use Rattle.std.specs.Char.{encode_utf8}
 use Rattle.std.specs.Str.Lossy.{utf8_valid_len}
 use Rattle.paje_lex.proofs.LineLaws.{lexed_found}
-use Rattle.paje_lex.proofs.rows.token_rows.Goals as goal
+use Rattle.paje_lex.proofs.examples.token_examples.Goals as goal
 
 pub returns-clause-spaced : goal.returns-clause-spaced
 unfolding is_utf8 chars encode_utf8 utf8_valid_len

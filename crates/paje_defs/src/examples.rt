@@ -6,8 +6,9 @@ ghost use Rattle.paje_defs.specs.FieldName.{all_fields, field_name_of, field_tex
 ghost use Rattle.paje_defs.specs.FieldType.{all_types, type_of, type_text};
 ghost use Rattle.paje_defs.specs.Definition.{missing, place_of};
 ghost use Rattle.paje_defs.specs.Numbers.{size_of, event_number_of};
-ghost use Rattle.paje_defs.specs.Rows.{defined, definitions_in, field_as, event_definitions, refused_line};
-ghost use Rattle.paje_defs.specs.Rows.{told_of};
+ghost use Rattle.paje_defs.specs.Examples.{defined, definitions_in, field_as, event_definitions};
+ghost use Rattle.paje_defs.specs.Examples.{refused_line};
+ghost use Rattle.paje_defs.specs.Examples.{told_of};
 
 use crate::def_fault::DefFault;
 use crate::event_fault::EventFault;
@@ -18,7 +19,7 @@ use crate::role::Role;
 use paje_lex::DateFault;
 
 /// Each name is read as what it is written for, and no other is.
-pub fn name_rows()
+pub fn name_examples()
     ensures events { map (λ e. event_name_of (event_text e)) all_events ≡ map (λ e. Some e) all_events }
     ensures fields { map (λ f. field_name_of (field_text f)) all_fields ≡ all_fields }
     ensures types { map (λ t. type_of (type_text t)) all_types ≡ map (λ t. Some t) all_types }
@@ -30,7 +31,7 @@ pub fn name_rows()
 {}
 
 /// Six definitions, one after another: none is left open and no line is refused.
-pub fn definition_rows()
+pub fn definition_examples()
     ensures { definitions_in (
         codes "%EventDef PajeDefineContainerType 0" ∷ codes "% Alias string" ∷ codes "% Type string" ∷
         codes "% Name string" ∷ codes "%EndEventDef" ∷ codes "%EventDef PajeDefineStateType 1" ∷
@@ -64,7 +65,7 @@ pub fn definition_rows()
 {}
 
 /// The first missing role of each event without fields, with some fields, and with the other names of fields.
-pub fn missing_rows()
+pub fn missing_examples()
     ensures none { map (λ e. missing e []) all_events ≡
         Some Role.Kind ∷ Some Role.Kind ∷ Some Role.Kind ∷ Some Role.Kind ∷ Some Role.Kind ∷
         Some Role.Kind ∷ Some Role.Time ∷ Some Role.Time ∷ Some Role.Time ∷ Some Role.Time ∷
@@ -123,7 +124,7 @@ pub fn missing_rows()
 {}
 
 /// Which field has a role.
-pub fn place_rows()
+pub fn place_examples()
     ensures doubled { place_of EventName.PopState (field_as FieldName.Time FieldType.Date
         ∷ field_as FieldName.Type FieldType.String ∷ field_as FieldName.Time FieldType.Date ∷ []) Role.Time ≡
         Some 0 }
@@ -153,7 +154,7 @@ pub fn place_rows()
 {}
 
 /// Lines that are refused, and some that aren't.
-pub fn refusal_rows()
+pub fn refusal_examples()
     ensures { map (λ lines. (definitions_in lines).fault) ((codes "%" ∷ [])
         ∷ (codes "% Time" ∷ [])
         ∷ (codes "% Time date" ∷ [])
@@ -178,7 +179,7 @@ pub fn refusal_rows()
 {}
 
 /// Which refusal comes first, and which line a doubled number tells.
-pub fn order_rows()
+pub fn order_examples()
     ensures second_line { (definitions_in (codes "%EventDef PajeNewEvent 1" ∷ codes "% Time date"
         ∷ codes "%EndEventDef" ∷ codes "%EventDef PajeNewEvent 2" ∷ codes "% Time date" ∷ codes "%EndEventDef"
         ∷ codes "%EventDef PajePopState 2" ∷ [])).fault ≡ Some (DefFault.DoubleNumber 4) }
@@ -197,7 +198,7 @@ pub fn order_rows()
 {}
 
 /// Which line is refused first, and that the lines behind it add nothing.
-pub fn first_refused_rows()
+pub fn first_refused_examples()
     ensures none { refused_line event_definitions ≡ None }
     ensures first { refused_line (codes "%EventDef PajeNewEvent 1" ∷ codes "% Time strange"
         ∷ codes "%EventDef PajeStrange 2" ∷ []) ≡ Some 2 }
@@ -225,7 +226,7 @@ pub fn first_refused_rows()
 {}
 
 /// A definition that is begun and not ended, and tokens that are dropped.
-pub fn begun_rows()
+pub fn begun_examples()
     ensures begun { definitions_in (codes "%EventDef PajePopState 5" ∷ codes "% Time date"
         ∷ codes "% Weight color" ∷ []) ≡ record {
           complete = [];
@@ -252,7 +253,7 @@ pub fn begun_rows()
 {}
 
 /// Event lines under a few definitions.
-pub fn event_rows()
+pub fn event_examples()
     ensures link { told_of event_definitions (Role.Time ∷ Role.Kind ∷ Role.From ∷ Role.Key ∷ Role.Value ∷ [])
         (codes "7 1 ff K a b k +50") ≡ Ok (
           1000000000,
@@ -283,7 +284,7 @@ pub fn event_rows()
 {}
 
 /// Sizes and numbers.
-pub fn number_rows()
+pub fn number_examples()
     ensures sizes { map size_of (codes "7" ∷ codes "+7" ∷ codes "-7" ∷ [] ∷ codes "+"
         ∷ codes "9223372036854775807"
         ∷ codes "9223372036854775808" ∷ codes "00000000000000000001" ∷ codes "0000000000000000001"

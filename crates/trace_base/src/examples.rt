@@ -1,7 +1,7 @@
 //! The definitions, computed on small streams. Each clause is the equation; the bodies are empty.
 ghost use Rattle.std.specs.Prelude.{◌≡◌, [], ◌∷◌, take};
 ghost use Rattle.trace_base.specs.Flat.{flat};
-ghost use Rattle.trace_base.specs.Rows.{two_calls, recursion, no_length};
+ghost use Rattle.trace_base.specs.Examples.{two_calls, recursion, no_length};
 ghost use Rattle.trace_base.specs.Stream.{stack_after, pieces};
 
 /// The call stack after the first two events of main calling f: main, and f innermost.

@@ -1,7 +1,7 @@
 use Rattle.std.proofs.Common.{refl}
 use Rattle.std.specs.Fmt.{digits}
 use Rattle.session_proto.specs.Reply.{reply_text}
-use Rattle.trace_session.proofs.rows.texts_of_replies.Goals as goal
+use Rattle.trace_session.proofs.examples.texts_of_replies.Goals as goal
 
 pub returns-clause-put : goal.returns-clause-put
 unfolding digits reply_text

@@ -1,6 +1,6 @@
 use Rattle.std.proofs.Common.{refl}
 use Rattle.paje_lex.specs.DateReading.{parts_of, exponent_of}
-use Rattle.paje_defs.proofs.rows.event_rows.Goals as goal
+use Rattle.paje_defs.proofs.examples.event_examples.Goals as goal
 
 pub returns-clause-link : goal.returns-clause-link
 unfolding parts_of exponent_of
