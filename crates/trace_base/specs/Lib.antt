@@ -1,5 +1,6 @@
 pub mod Flat
 pub mod FoldExamples
+pub mod InOrder
 pub mod Info
 pub mod Matrix
 pub mod MemSink

@@ -1,8 +1,10 @@
 -- The communication matrix of messages over a half-open interval.
-use Rattle.std.specs.Prelude.{ℕ, ◌+◌, ◌-◌, Bool, ◌&&◌, ◌==◌, nat_lt, max, List, length, map, filter, fold}
+use Rattle.std.specs.Prelude.{ℕ, ◌-◌, Bool, ◌&&◌, ◌==◌, nat_lt, max, List, length, map, filter, fold}
 use Rattle.std.specs.Prelude.{sum_by, count_by}
-use Rattle.std.specs.List.{flat_map, list_any, range_with_len}
+use Rattle.std.specs.Ordering.{nat_cmp, ordering_then}
+use Rattle.std.specs.declared.cmp.Ordering.{Ordering}
 use Rattle.trace_base.specs.Flat.{is_within}
+use Rattle.trace_base.specs.InOrder.{distinct_in_order}
 use Rattle.trace_base.specs.declared.matrix.Matrix.{Matrix}
 use Rattle.trace_base.specs.declared.matrix.MatrixRow.{MatrixRow}
 use Rattle.trace_base.specs.declared.messages.Message.{Message}
@@ -35,17 +37,17 @@ pair_row messages p = record {
   backward = count_by is_backward (filter (is_of p) messages);
 }
 
--- the greatest number of a container that the messages name, 0 where there is none
-abbrev pub greatest_container : List Message → ℕ
-greatest_container messages = fold (λ n m. max n (max m.from m.to)) 0 messages
+-- the pair of containers that the message goes between: the sender and the receiver
+abbrev pub pair_of : Message → ℕ × ℕ
+pair_of m = (m.from, m.to)
 
--- the pairs of numbers below n, in order: by the sender, then the receiver
-abbrev pub pairs_below : ℕ → List (ℕ × ℕ)
-pairs_below n = flat_map (λ from. map (λ to. (from, to)) (range_with_len 0 n)) (range_with_len 0 n)
+-- the order of pairs: by the sender, then the receiver
+abbrev pub pair_cmp : ℕ × ℕ → ℕ × ℕ → Ordering
+pair_cmp p q = ordering_then (nat_cmp p.0 q.0) (nat_cmp p.1 q.1)
 
--- the pairs that have a message, in order
+-- the different pairs that have a message, in order
 unfoldable pub pairs_of : List Message → List (ℕ × ℕ)
-pairs_of messages = filter (λ p. list_any (is_of p) messages) (pairs_below (greatest_container messages + 1))
+pairs_of messages = distinct_in_order pair_cmp (map pair_of messages)
 
 -- the matrix of the messages that were sent within [a, b): a row for each pair that has one
 unfoldable pub matrix_of : List Message → ℕ → ℕ → Matrix

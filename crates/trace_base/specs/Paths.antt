@@ -1,11 +1,13 @@
 -- The call-tree profile of streams over the half-open interval [a, b): what it has for each call path, where
 -- a path is a call stack from the outermost call down.
-use Rattle.std.specs.Prelude.{ℕ, ◌+◌, ◌-◌, zero, suc, Bool, true, false, ◌&&◌, ◌||◌, nat_eq, nat_lt, List, []}
-use Rattle.std.specs.Prelude.{◌∷◌, ◌++◌, length, take, sum_by, count_by, slice_index, slice_get}
-use Rattle.std.specs.Cmp.Lexicographic.{pointwise}
+use Rattle.std.specs.Prelude.{ℕ, ◌+◌, ◌-◌, Bool, false, not, ◌&&◌, ◌||◌, nat_eq, nat_lt, List, length, take}
+use Rattle.std.specs.Prelude.{map, filter, sum_by, count_by, slice_index, slice_get}
+use Rattle.std.specs.Cmp.Lexicographic.{pointwise, slice_cmp}
 use Rattle.std.specs.List.{flat_map, range_with_len, starts_with}
 use Rattle.std.specs.Option.{option_map_or}
-use Rattle.trace_base.specs.Flat.{greatest_function, is_bare, is_within, time_with}
+use Rattle.std.specs.Ordering.{nat_cmp}
+use Rattle.trace_base.specs.Flat.{is_bare, is_within, time_with}
+use Rattle.trace_base.specs.InOrder.{distinct_in_order}
 use Rattle.trace_base.specs.Stream.{is_enter, time_of, stack_after}
 use Rattle.trace_base.specs.declared.stream.TrackStream.{TrackStream}
 use Rattle.trace_base.specs.declared.profile.PathRow.{PathRow}
@@ -43,20 +45,20 @@ unfoldable pub path_stands : List TrackStream → ℕ → ℕ → List ℕ → B
 path_stands streams a b path = nat_lt 0 (sum_by (calls_making (is_under path) a b) streams)
     || nat_lt 0 (sum_by (time_with (is_under path) a b) streams)
 
--- The rows of the paths that begin with this one and are at most so many calls longer, in depth-first order:
--- a path's own row, then those under it, siblings rising by function.
-unfoldable pub rows_under : ℕ → List TrackStream → ℕ → ℕ → List ℕ → List PathRow
-rows_under zero streams a b path = []
-rows_under (suc more) streams a b path =
-    flat_map (λ f. elim (path_stands streams a b (path ++ f ∷ [])) [
-      | true ↦ path_row streams a b (path ++ f ∷ []) ∷ rows_under more streams a b (path ++ f ∷ [])
-      | false ↦ []
-    ]) (range_with_len 1 (greatest_function streams))
+-- the call stacks of the stream, one after each of its events
+abbrev pub call_stacks : TrackStream → List (List ℕ)
+call_stacks s = map (λ n. stack_after (take n s.events)) (range_with_len 1 (length s.events))
 
--- The call-tree profile of the streams over [a, b), their numbers added. No legal stream has more than 256
--- calls open.
+-- The different call paths of the streams, in depth-first order: a path comes before those that go on from it,
+-- and siblings rise by function. A path that a call stack begins with was the call stack itself when its
+-- innermost call was entered, so these are all of them.
+unfoldable pub call_paths : List TrackStream → List (List ℕ)
+call_paths streams = distinct_in_order (slice_cmp nat_cmp)
+    (filter (λ stack. not (is_bare stack)) (flat_map call_stacks streams))
+
+-- the call-tree profile of the streams over [a, b), their numbers added: a row for each path that stands
 unfoldable pub paths : List TrackStream → ℕ → ℕ → PathProfile
 paths streams a b = record {
   bare = sum_by (time_with is_bare a b) streams;
-  rows = rows_under 256 streams a b [];
+  rows = map (path_row streams a b) (filter (path_stands streams a b) (call_paths streams));
 }

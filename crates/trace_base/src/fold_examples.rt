@@ -22,7 +22,7 @@ pub fn timeline_of_two_calls()
 
 /// The call-tree profile of a call that calls itself, of two functions that call each other, and of a path
 /// that is told only because a call under it began.
-#[tactic(auto, unfolding(crate::specs::Stream::stack_after, crate::specs::Stream::pieces, crate::specs::Flat::time_with, crate::specs::Flat::greatest_function, crate::specs::Paths::calls_making, crate::specs::Paths::path_row, crate::specs::Paths::path_stands, crate::specs::Paths::rows_under, crate::specs::Paths::paths))]
+#[tactic(auto, unfolding(crate::specs::Stream::stack_after, crate::specs::Stream::pieces, crate::specs::Flat::time_with, crate::specs::Paths::calls_making, crate::specs::Paths::path_row, crate::specs::Paths::path_stands, crate::specs::Paths::call_paths, crate::specs::Paths::paths))]
 pub fn paths_of_small_streams()
     ensures recursion { paths (recursion ∷ []) 0 10 ≡ record {
       bare = 0;
