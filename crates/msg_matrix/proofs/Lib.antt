@@ -1,3 +1,2 @@
-pub mod AllPairs
 pub mod Keys
 pub mod Sums

@@ -1,15 +1,19 @@
--- The row of a pair, one message more.
+-- The row of a pair and the table of all rows, one message more.
 use Rattle.std.proofs.Common.{◌≡◌, ℕ, ◌+◌, ◌^◌, ◌<◌, ◌≤◌, Bool, true, false, cond, max, List, [], ◌∷◌, ◌++◌}
-use Rattle.std.proofs.Common.{length, take, get_or, filter, fold, sum_by, count_by, ap, ◌∙◌, append-nil}
-use Rattle.std.proofs.Common.{arith, length-append}
+use Rattle.std.proofs.Common.{length, take, get_or, filter, fold, map, sum_by, count_by, unwrap_or, refl, ap}
+use Rattle.std.proofs.Common.{subst, sym, ◌∙◌, append-nil, arith, length-append}
 use Rattle.std.proofs.lemmas.List.{take_more}
 use Rattle.std.proofs.lemmas.List.Elements.{filter-append}
 use Rattle.std.proofs.lemmas.List.Sums.{fold_push, sum_by_push}
 use Rattle.trace_base.specs.Flat.{is_within}
-use Rattle.trace_base.specs.Matrix.{sent_within, is_backward, transit_of, is_of, pair_row}
+use Rattle.std.specs.BTreeMap.{is_at, keys}
+use Rattle.std.specs.BTreeSet.{insert_key}
+use Rattle.std.specs.Map.{keys_of, lookup}
+use Rattle.trace_base.specs.Matrix.{sent_within, is_backward, transit_of, is_of, pair_cmp, pair_of, pair_row}
+use Rattle.trace_base.specs.Matrix.{pairs_of}
 use Rattle.trace_base.specs.declared.matrix.MatrixRow.{MatrixRow}
 use Rattle.trace_base.specs.declared.messages.Message.{Message}
-use Rattle.msg_matrix.specs.Pairs.{IsOfAtMost, row_with}
+use Rattle.msg_matrix.specs.Pairs.{IsOfAtMost, Pairs, empty_row, row_at, row_with}
 
 -- whether the message was sent within the interval
 abbrev pub is_sent : ℕ → ℕ → Message → Bool
@@ -85,3 +89,58 @@ pub IsOfAtMost-cond : (b : Bool) (row more : MatrixRow) (n : ℕ) → (IsOfAtMos
     → IsOfAtMost row n → IsOfAtMost (cond b more row) (n + 1)
 IsOfAtMost-cond true row more n h small = h small
 IsOfAtMost-cond false row more n h small = IsOfAtMost-more row n (n + 1) (omega arith) small
+
+map-push : {X Y : Type 0} (g : X → Y) (xs : List X) (x : X) → map g (xs ++ x ∷ []) ≡ map g xs ++ g x ∷ []
+map-push g [] x = refl
+map-push g (y ∷ ys) x = ap (λ zs. g y ∷ zs) (map-push g ys x)
+
+pub pairs_of-push : (ms : List Message) (m : Message) → pairs_of (ms ++ m ∷ []) ≡ insert_key pair_cmp
+    (pairs_of ms) (pair_of m)
+unfolding pairs_of
+pairs_of-push ms m = ap (fold (insert_key pair_cmp) []) (map-push pair_of ms m) ∙ fold_push
+    (insert_key pair_cmp) [] (map pair_of ms) (pair_of m)
+
+-- the table has the rows of these messages, of which there are at most n
+pub record HasRows (table : Pairs) (ms : List Message) (n : ℕ) : Type 0 where
+  pub rows : (q : ℕ × ℕ) → row_at table q ≡ pair_row ms q
+  pub in_order : keys table ≡ pairs_of ms
+  pub small : (q : ℕ × ℕ) → IsOfAtMost (row_at table q) n
+
+pub HasRows-none : (table : Pairs) → table.entries ≡ [] → HasRows table [] 0
+unfolding pair_row pairs_of
+HasRows-none table none =
+    let empty : (q : ℕ × ℕ) → row_at table q ≡ empty_row q =
+    λ (q : ℕ × ℕ). ap (λ (es : List ((ℕ × ℕ) × MatrixRow)). unwrap_or (lookup (is_at (pair_cmp q)) es)
+    (empty_row q)) none in
+    let P : MatrixRow → Type 0 = λ r. IsOfAtMost r 0 in
+    record {
+      rows = empty;
+      in_order = ap keys_of none;
+      small = λ q. subst P (sym (empty q)) (record {
+        count = omega arith;
+        bytes = omega arith;
+        transit = omega arith;
+        backward = omega arith;
+      });
+    }
+
+pub HasRows-more : (table new : Pairs) (ms : List Message) (m : Message) (n : ℕ) → HasRows table ms n
+    → ((q : ℕ × ℕ) → row_at new q ≡ cond (is_of q m) (row_with (row_at table q) m) (row_at table q))
+    → keys new ≡ insert_key pair_cmp (keys table) (pair_of m)
+    → ((q : ℕ × ℕ) (k : ℕ) → IsOfAtMost (row_at table q) k → IsOfAtMost (row_at new q) (k + 1))
+    → HasRows new (ms ++ m ∷ []) (n + 1)
+HasRows-more table new ms m n has rows in_order small = record {
+  rows = λ q. rows q ∙ ap (λ (r : MatrixRow). cond (is_of q m) (row_with r m) r) (has.rows q)
+      ∙ sym (pair_row-push q ms m);
+  in_order = in_order ∙ ap (λ (ps : List (ℕ × ℕ)). insert_key pair_cmp ps (pair_of m)) has.in_order
+      ∙ sym (pairs_of-push ms m);
+  small = λ q. small q n (has.small q);
+}
+
+pub HasRows-as : (table : Pairs) (ms : List Message) (n k : ℕ) → n ≤ k → HasRows table ms n
+    → HasRows table ms k
+HasRows-as table ms n k h has = record {
+  rows = has.rows;
+  in_order = has.in_order;
+  small = λ q. IsOfAtMost-more (row_at table q) n k h (has.small q);
+}

@@ -1,23 +1,9 @@
 -- The rows of a matrix, by the pair of containers that each is of.
-use Rattle.std.specs.Prelude.{ℕ, ◌+◌, ◌*◌, ◌^◌, ◌≤◌, List, ◌∷◌, ◌++◌, cond, filter, max, unwrap_or}
-use Rattle.std.specs.Ordering.{is_lt, nat_cmp, ordering_then}
-use Rattle.std.specs.declared.cmp.Ordering.{Ordering}
+use Rattle.std.specs.Prelude.{ℕ, ◌+◌, ◌*◌, ◌^◌, ◌≤◌, cond, max, unwrap_or}
 use Rattle.std.specs.BTreeMap.{BTreeMap, get}
-use Rattle.trace_base.specs.Matrix.{is_backward, transit_of}
+use Rattle.trace_base.specs.Matrix.{is_backward, pair_cmp, transit_of}
 use Rattle.trace_base.specs.declared.matrix.MatrixRow.{MatrixRow}
 use Rattle.trace_base.specs.declared.messages.Message.{Message}
-
--- the pair of containers that the message goes between: the sender and the receiver
-abbrev pub pair_of : Message → ℕ × ℕ
-pair_of m = (m.from, m.to)
-
--- the order of pairs: by the sender, then the receiver
-abbrev pub pair_cmp : ℕ × ℕ → ℕ × ℕ → Ordering
-pair_cmp p q = ordering_then (nat_cmp p.0 q.0) (nat_cmp p.1 q.1)
-
--- the pair put into a list of different pairs in order; where it stands there already, nothing changes
-abbrev pub put_pair : ℕ × ℕ → List (ℕ × ℕ) → List (ℕ × ℕ)
-put_pair p pairs = filter (λ q. is_lt (pair_cmp q p)) pairs ++ p ∷ filter (λ q. is_lt (pair_cmp p q)) pairs
 
 abbrev pub Pairs : Type 0
 Pairs = BTreeMap (ℕ × ℕ) MatrixRow

@@ -1,8 +1,7 @@
 ghost use Rattle.std.specs.Prelude.{◌≡◌, IfOk};
 ghost use Rattle.std.specs.BTreeMap.{values, IsOrdered};
 ghost use Rattle.trace_base.specs.Flat.{is_within};
-ghost use Rattle.trace_base.specs.Matrix.{matrix_of};
-ghost use Rattle.msg_matrix.specs.Pairs.{pair_cmp};
+ghost use Rattle.trace_base.specs.Matrix.{matrix_of, pair_cmp};
 
 use crate::pairs::add;
 use std::alloc::Global;

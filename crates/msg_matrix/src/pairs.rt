@@ -1,7 +1,8 @@
-ghost use Rattle.std.specs.Prelude.{◌≡◌, ◌+◌, ◌^◌, ℕ, OnOk, if◌then◌else◌};
-ghost use Rattle.std.specs.BTreeMap.{keys};
-ghost use Rattle.msg_matrix.specs.Pairs.{IsOfAtMost, empty_row, pair_of, put_pair, row_at, row_with};
-ghost use Rattle.trace_base.specs.Matrix.{is_of};
+ghost use Rattle.std.specs.Prelude.{◌≡◌, ◌+◌, ◌^◌, ℕ, OnErr, OnOk, if◌then◌else◌};
+ghost use Rattle.std.specs.BTreeMap.{keys, IsUnchanged};
+ghost use Rattle.std.specs.BTreeSet.{insert_key};
+ghost use Rattle.msg_matrix.specs.Pairs.{IsOfAtMost, empty_row, row_at, row_with};
+ghost use Rattle.trace_base.specs.Matrix.{is_of, pair_cmp, pair_of};
 ghost use Rattle.trace_base.specs.declared.matrix.MatrixRow.{MatrixRow};
 
 use std::collections::BTreeMap;
@@ -44,9 +45,10 @@ pub fn add(pairs: &mut BTreeMap<(u32, u32), MatrixRow>, m: Message) -> Result<()
     requires { IsOfAtMost (row_at pairs.old (pair_of m)) (2 ^ 63) }
     ensures rows { OnOk result ((q : ℕ × ℕ) →
         row_at pairs.new q ≡ (if is_of q m then row_with (row_at pairs.old q) m else row_at pairs.old q)) }
-    ensures in_order { OnOk result (keys pairs.new ≡ put_pair (pair_of m) (keys pairs.old)) }
+    ensures in_order { OnOk result (keys pairs.new ≡ insert_key pair_cmp (keys pairs.old) (pair_of m)) }
     ensures limits { OnOk result ((q : ℕ × ℕ) (n : ℕ) → IsOfAtMost (row_at pairs.old q) n
         → IsOfAtMost (row_at pairs.new q) (n + 1)) }
+    ensures unchanged { OnErr result (IsUnchanged pairs.old pairs.new) }
 {
     let key = (m.from, m.to);
     let row = pairs

@@ -2,16 +2,16 @@ use Rattle.std.proofs.Common.{◌≡◌, ◌+◌, cond, ap, subst, sym, ◌∙�
 use Rattle.std.proofs.lemmas.Grind.{common_steps}
 use Rattle.trace_base.specs.declared.matrix.MatrixRow.{MatrixRow}
 use Rattle.std.specs.Map.{keys_of}
-use Rattle.trace_base.specs.Matrix.{is_of}
-use Rattle.msg_matrix.specs.Pairs.{IsOfAtMost, pair_cmp, pair_of, row_at, row_with}
-use Rattle.msg_matrix.proofs.Keys.{keys-insert_entry, pair_cmp-total, pair_cmp-Equal}
+use Rattle.trace_base.specs.Matrix.{is_of, pair_cmp, pair_of}
+use Rattle.msg_matrix.specs.Pairs.{IsOfAtMost, row_at, row_with}
+use Rattle.msg_matrix.proofs.Keys.{keys_of-insert_entry}
 use Rattle.msg_matrix.proofs.Sums.{IsOfAtMost-cond}
 use Rattle.msg_matrix.proofs.pairs.add.Goals as goal
 
 pub returns-clause-in_order : goal.returns-clause-in_order
 returns-clause-in_order c =
-    ap keys_of c.in_ok-insert.ensures.entries ∙ keys-insert_entry pair_cmp pair_cmp-total pair_cmp-Equal
-    c.args.pairs.now.entries (pair_of c.args.m) c.with_message.result c.in_ok-insert.ensures.was_ordered
+    ap keys_of c.in_ok-insert.ensures.entries ∙ keys_of-insert_entry pair_cmp c.args.pairs.now.entries
+    (pair_of c.args.m) c.with_message.result
 
 pub returns-clause-limits : goal.returns-clause-limits
 returns-clause-limits c = λ q n small.
