@@ -1,97 +1,152 @@
--- The rows of the paths under a path, one function more.
-use Rattle.std.proofs.Common.{◌≡◌, ℕ, ◌+◌, suc, Bool, true, false, List, [], ◌∷◌, ◌++◌, refl, ap, sym, ◌∙◌}
-use Rattle.std.proofs.Common.{arith, append-nil, append_assoc}
-use Rattle.std.specs.List.{flat_map, range_with_len}
-use Rattle.trace_base.proofs.Ranges.{range_with_len-more}
-use Rattle.trace_base.specs.Flat.{greatest_function}
-use Rattle.trace_base.specs.Paths.{path_row, path_stands, rows_under}
+-- The different call paths of a stream, one event more, and the rows of paths, one path more.
+use Rattle.std.proofs.Common.{◌≡◌, ℕ, ◌+◌, ◌<◌, ◌≤◌, not, Bool, true, false, cond, List, [], ◌∷◌, ◌++◌, length}
+use Rattle.std.proofs.Common.{take, get_or, map, filter, refl, ap, subst, sym, ◌∙◌, arith, append-nil}
+use Rattle.std.proofs.Common.{Vec, Global}
+use Rattle.std.specs.BTreeSet.{insert_key}
+use Rattle.std.specs.Cmp.Lexicographic.{slice_cmp}
+use Rattle.std.specs.List.{All, range_with_len}
+use Rattle.std.specs.Ordering.{match_ordering, nat_cmp}
+use Rattle.std.specs.declared.cmp.Ordering.{Ordering}
+use Rattle.std.specs.declared.cmp.Ordering.TheVariants.{Less, Equal, Greater}
+use Rattle.std.proofs.lemmas.Bool.{cond-true, cond-false, eqb-false}
+use Rattle.std.proofs.lemmas.List.{map-append}
+use Rattle.std.proofs.lemmas.List.Elements.{filter-append, All-nil}
+use Rattle.std.proofs.lemmas.Map.Views.{All-insert_key}
+use Rattle.std.proofs.lemmas.List.FromFn.{filter_of_map_range_with_len_more}
+use Rattle.std.proofs.lemmas.List.Sums.{fold_push}
+use Rattle.trace_base.specs.Flat.{is_bare}
+use Rattle.trace_base.specs.InOrder.{distinct_in_order}
+use Rattle.trace_base.specs.Paths.{call_paths, call_stacks, path_row, path_stands}
+use Rattle.trace_base.specs.Stream.{stack_after, IsLegal}
+use Rattle.trace_base.specs.declared.limits.TheConstants.{MAX_OPEN_CALLS}
 use Rattle.trace_base.specs.declared.profile.PathRow.{PathRow}
 use Rattle.trace_base.specs.declared.stream.TrackStream.{TrackStream}
+use Rattle.event_model.specs.PathRows.{rows_told, IsOfOpenCalls}
+use Rattle.event_model.proofs.Lists.{map-take_more}
 
--- the rows of a child of the path, which are none where it doesn't stand
-abbrev pub rows_if : Bool → ℕ → List TrackStream → ℕ → ℕ → List ℕ → List PathRow
-rows_if told more streams a b path = elim told [
-  | true ↦ path_row streams a b path
-      ∷ rows_under more streams a b path
-  | false ↦ []
-]
+-- a key put among others is read as it is put among what they are read as
+pub map-insert_key : {K L : Type 0} (read : K → L) (cmp : L → L → Ordering) (ks : List K) (k : K)
+    → map read (insert_key (λ x y. cmp (read x) (read y)) ks k) ≡ insert_key cmp (map read ks) (read k)
+map-insert_key read cmp [] k = refl
+map-insert_key read cmp (x ∷ xs) k = by (cmp (read k) (read x)) (map-insert_key read cmp xs k)
+  where
+    by : (r : Ordering)
+        → map read (insert_key (λ x y. cmp (read x) (read y)) xs k) ≡ insert_key cmp (map read xs) (read k)
+        → map read (match_ordering r (k ∷ x ∷ xs) (x ∷ xs) (x ∷ insert_key (λ x y. cmp (read x) (read y)) xs k))
+        ≡ match_ordering r (read k ∷ read x ∷ map read xs) (read x ∷ map read xs)
+        (read x ∷ insert_key cmp (map read xs) (read k))
+    by Less rest = refl
+    by Equal rest = refl
+    by Greater rest = ap (λ ys. read x ∷ ys) rest
 
--- the rows of the children of the path that are one of the first n functions
-pub rows_upto : ℕ → List TrackStream → ℕ → ℕ → List ℕ → ℕ → List PathRow
-rows_upto more streams a b path n = flat_map (λ f. rows_if (path_stands streams a b (path ++ f ∷ [])) more
-    streams a b (path ++ f ∷ [])) (range_with_len 1 n)
+abbrev stacks_upto : TrackStream → ℕ → List (List ℕ)
+stacks_upto s n = filter (λ stack. not (is_bare stack))
+    (map (λ i. stack_after (take i s.events)) (range_with_len 1 n))
 
-pub rows_upto-zero : (more : ℕ) (streams : List TrackStream) (a b : ℕ) (path : List ℕ)
-    → rows_upto more streams a b path 0 ≡ []
-unfolding rows_upto
-rows_upto-zero more streams a b path = refl
+-- the different paths after the first n events
+pub paths_upto : TrackStream → ℕ → List (List ℕ)
+paths_upto s n = distinct_in_order (slice_cmp nat_cmp) (stacks_upto s n)
 
-flat_map-append : {X Y : Type 0} (f : X → List Y) (xs ys : List X) → flat_map f (xs ++ ys) ≡ flat_map f xs
-    ++ flat_map f ys
-flat_map-append f [] ys = refl
-flat_map-append f (x ∷ xs) ys = ap (λ zs. f x ++ zs) (flat_map-append f xs ys) ∙ sym
-    (append_assoc (f x) (flat_map f xs) (flat_map f ys))
+pub paths_upto-zero : (s : TrackStream) → paths_upto s 0 ≡ []
+unfolding paths_upto
+paths_upto-zero s = refl
 
-pub rows_upto-suc : (more : ℕ) (streams : List TrackStream) (a b : ℕ) (path : List ℕ) (n : ℕ)
-    → rows_upto more streams a b path (n + 1) ≡ rows_upto more streams a b path n
-    ++ rows_if (path_stands streams a b (path ++ (n + 1) ∷ [])) more streams a b (path ++ (n + 1) ∷ [])
-unfolding rows_upto
-rows_upto-suc more streams a b path n =
-    let same : 1 + n ≡ n + 1 = omega arith in
-    ap (flat_map (λ f. rows_if (path_stands streams a b (path ++ f ∷ [])) more streams a b (path ++ f ∷ [])))
-    (range_with_len-more 1 n (n + 1) same)
-    ∙ flat_map-append (λ f. rows_if (path_stands streams a b (path ++ f ∷ [])) more streams a b
-    (path ++ f ∷ [])) (range_with_len 1 n) ((n + 1) ∷ [])
-    ∙ ap (λ zs. rows_upto more streams a b path n ++ zs)
-    (append-nil (rows_if (path_stands streams a b (path ++ (n + 1) ∷ [])) more streams a b
-    (path ++ (n + 1) ∷ [])))
+pub paths_upto-all : (s : TrackStream) → paths_upto s (length s.events) ≡ call_paths (s ∷ [])
+unfolding paths_upto call_paths
+paths_upto-all s = ap (λ (stacks : List (List ℕ)). distinct_in_order (slice_cmp nat_cmp)
+    (filter (λ stack. not (is_bare stack)) stacks)) (sym (append-nil (call_stacks s)))
 
-pub rows_upto-all : (more : ℕ) (streams : List TrackStream) (a b : ℕ) (path : List ℕ)
-    → rows_upto more streams a b path (greatest_function streams) ≡ rows_under (suc more) streams a b path
-unfolding rows_upto rows_under
-rows_upto-all more streams a b path = refl
+pub paths_upto-suc : (s : TrackStream) (n : ℕ) (stack : List ℕ) → stack ≡ stack_after (take (n + 1) s.events)
+    → paths_upto s (n + 1) ≡ cond (is_bare stack) (paths_upto s n)
+    (insert_key (slice_cmp nat_cmp) (paths_upto s n) stack)
+unfolding paths_upto
+paths_upto-suc s n stack e =
+    let place : 1 + n ≡ n + 1 = omega arith in
+    ap (distinct_in_order (slice_cmp nat_cmp))
+    (filter_of_map_range_with_len_more (λ (calls : List ℕ). not (is_bare calls))
+    (λ i. stack_after (take i s.events)) 1 n (n + 1) place)
+    ∙ ap (λ (calls : List ℕ). distinct_in_order (slice_cmp nat_cmp)
+    (stacks_upto s n ++ cond (not (is_bare calls)) (calls ∷ []) [])) (sym e)
+    ∙ by (is_bare stack)
+  where
+    by : (bare : Bool)
+        → distinct_in_order (slice_cmp nat_cmp) (stacks_upto s n ++ cond (not bare) (stack ∷ []) [])
+        ≡ cond bare (distinct_in_order (slice_cmp nat_cmp) (stacks_upto s n))
+        (insert_key (slice_cmp nat_cmp) (distinct_in_order (slice_cmp nat_cmp) (stacks_upto s n)) stack)
+    by true = ap (distinct_in_order (slice_cmp nat_cmp)) (append-nil (stacks_upto s n))
+    by false = fold_push (insert_key (slice_cmp nat_cmp)) [] (stacks_upto s n) stack
 
-pub rows_under-zero : (streams : List TrackStream) (a b : ℕ) (path : List ℕ)
-    → rows_under 0 streams a b path ≡ []
-unfolding rows_under
-rows_under-zero streams a b path = refl
+-- what is known after the first n events, with these calls open and this set of paths
+pub record HasPaths (s : TrackStream) (n : ℕ) (calls : List ℕ) (keys : List (Vec ℕ Global)) : Type 0 where
+  pub stack : calls ≡ stack_after (take n s.events)
+  pub paths : map (λ path. path.items) keys ≡ paths_upto s n
+  pub each : All (λ path. IsOfOpenCalls path.items) keys
 
--- a child that stands, and one that doesn't
-pub rows_upto-told : (more : ℕ) (streams : List TrackStream) (a b : ℕ) (path child : List ℕ) (n : ℕ)
-    (told : Bool) (row : PathRow) (before rows pushed new : List PathRow)
-    → child ≡ path ++ (n + 1) ∷ [] → told ≡ path_stands streams a b child → told ≡ true
-    → rows ≡ before ++ rows_upto more streams a b path n → pushed ≡ rows ++ row ∷ []
-    → row ≡ path_row streams a b child → new ≡ pushed ++ rows_under more streams a b child
-    → new ≡ before ++ rows_upto more streams a b path (n + 1)
-rows_upto-told more streams a b path child n told row before rows pushed new hc hs ht hr hp hw hn =
-    let stands : path_stands streams a b (path ++ (n + 1) ∷ []) ≡ true =
-    sym (hs ∙ ap (path_stands streams a b) hc) ∙ ht in
-    let own : row ≡ path_row streams a b (path ++ (n + 1) ∷ []) = hw ∙ ap (path_row streams a b) hc in
-    let under : rows_under more streams a b child ≡ rows_under more streams a b (path ++ (n + 1) ∷ []) =
-    ap (rows_under more streams a b) hc in
-    hn
-    ∙ ap (λ (xs : List PathRow). xs ++ rows_under more streams a b child)
-    (hp ∙ ap (λ (xs : List PathRow). xs ++ row ∷ []) hr)
-    ∙ append_assoc (before ++ rows_upto more streams a b path n) (row ∷ [])
-    (rows_under more streams a b child)
-    ∙ append_assoc before (rows_upto more streams a b path n) (row ∷ rows_under more streams a b child)
-    ∙ ap (λ (xs : List PathRow). before ++ (rows_upto more streams a b path n ++ xs))
-    (ap (λ (r : PathRow). r ∷ rows_under more streams a b child) own ∙ ap
-    (λ (xs : List PathRow). path_row streams a b (path ++ (n + 1) ∷ []) ∷ xs) under)
-    ∙ ap (λ (t : Bool). before ++ (rows_upto more streams a b path n
-    ++ rows_if t more streams a b (path ++ (n + 1) ∷ []))) (sym stands)
-    ∙ ap (λ (xs : List PathRow). before ++ xs) (sym (rows_upto-suc more streams a b path n))
+pub HasPaths-none : (s : TrackStream) (calls : List ℕ) (keys : List (Vec ℕ Global)) → calls ≡ [] → keys ≡ []
+    → HasPaths s 0 calls keys
+unfolding stack_after
+HasPaths-none s calls keys closed none =
+    let P : List (Vec ℕ Global) → Type 0 = λ ks. All (λ path. IsOfOpenCalls path.items) ks in
+    record {
+      stack = closed;
+      paths = ap (map (λ (path : Vec ℕ Global). path.items)) none ∙ sym (paths_upto-zero s);
+      each = subst P (sym none) (All-nil (λ path. IsOfOpenCalls path.items));
+    }
 
-pub rows_upto-left : (more : ℕ) (streams : List TrackStream) (a b : ℕ) (path child : List ℕ) (n : ℕ)
-    (told : Bool) (before rows : List PathRow)
-    → child ≡ path ++ (n + 1) ∷ [] → told ≡ path_stands streams a b child → told ≡ false
-    → rows ≡ before ++ rows_upto more streams a b path n
-    → rows ≡ before ++ rows_upto more streams a b path (n + 1)
-rows_upto-left more streams a b path child n told before rows hc hs ht hr =
-    let stands : path_stands streams a b (path ++ (n + 1) ∷ []) ≡ false =
-    sym (hs ∙ ap (path_stands streams a b) hc) ∙ ht in
-    hr
-    ∙ ap (λ (xs : List PathRow). before ++ xs) (sym (append-nil (rows_upto more streams a b path n)))
-    ∙ ap (λ (t : Bool). before ++ (rows_upto more streams a b path n
-    ++ rows_if t more streams a b (path ++ (n + 1) ∷ []))) (sym stands)
-    ∙ ap (λ (xs : List PathRow). before ++ xs) (sym (rows_upto-suc more streams a b path n))
+pub HasPaths-bare : (s : TrackStream) (n : ℕ) (calls new : List ℕ) (keys : List (Vec ℕ Global))
+    → HasPaths s n calls keys → new ≡ stack_after (take (n + 1) s.events) → is_bare new ≡ true
+    → HasPaths s (n + 1) new keys
+HasPaths-bare s n calls new keys has e bare = record {
+  stack = e;
+  paths = has.paths ∙ sym (paths_upto-suc s n new e ∙ cond-true (is_bare new) (paths_upto s n)
+      (insert_key (slice_cmp nat_cmp) (paths_upto s n) new) bare);
+  each = has.each;
+}
+
+pub HasPaths-more : (s : TrackStream) (n : ℕ) (calls new : List ℕ) (keys more : List (Vec ℕ Global))
+    (path : Vec ℕ Global) → IsLegal s → HasPaths s n calls keys → new ≡ stack_after (take (n + 1) s.events)
+    → is_bare new ≡ false → path.items ≡ new
+    → more ≡ insert_key (λ x y. slice_cmp nat_cmp x.items y.items) keys path → HasPaths s (n + 1) new more
+HasPaths-more s n calls new keys more path legal has e open_ same put =
+    let P : List (Vec ℕ Global) → Type 0 = λ ks. All (λ p. IsOfOpenCalls p.items) ks in
+    let order : Vec ℕ Global → Vec ℕ Global → Ordering = λ x y. slice_cmp nat_cmp x.items y.items in
+    let some : 1 ≤ length path.items = omega (arith, ap length same, eqb-false (length new) 0 open_) in
+    let depth : length path.items ≤ MAX_OPEN_CALLS = subst (λ (calls : List ℕ). length calls ≤ MAX_OPEN_CALLS)
+    (sym (same ∙ e)) (legal.depth (n + 1)) in
+    record {
+      stack = e;
+      paths = ap (map (λ (p : Vec ℕ Global). p.items)) put
+          ∙ map-insert_key (λ (p : Vec ℕ Global). p.items) (slice_cmp nat_cmp) keys path
+          ∙ ap (λ (ps : List (List ℕ)). insert_key (slice_cmp nat_cmp) ps path.items) has.paths
+          ∙ ap (insert_key (slice_cmp nat_cmp) (paths_upto s n)) same
+          ∙ sym (paths_upto-suc s n new e ∙ cond-false (is_bare new) (paths_upto s n)
+          (insert_key (slice_cmp nat_cmp) (paths_upto s n) new) open_);
+      each = subst P (sym put) (All-insert_key order path (λ p. IsOfOpenCalls p.items) keys has.each
+          (record { some = some; depth = depth }));
+    }
+
+rows_told-push : (streams : List TrackStream) (a b : ℕ) (paths : List (List ℕ)) (path : List ℕ)
+    → rows_told streams a b (paths ++ path ∷ []) ≡ rows_told streams a b paths
+    ++ cond (path_stands streams a b path) (path_row streams a b path ∷ []) []
+rows_told-push streams a b paths path =
+    ap (map (path_row streams a b)) (filter-append (path_stands streams a b) paths (path ∷ []))
+    ∙ map-append (path_row streams a b) (filter (path_stands streams a b) paths)
+    (cond (path_stands streams a b path) (path ∷ []) [])
+    ∙ ap (λ (rows : List PathRow). rows_told streams a b paths ++ rows) (by (path_stands streams a b path))
+  where
+    by : (told : Bool) → map (path_row streams a b) (cond told (path ∷ []) []) ≡ cond told
+        (path_row streams a b path ∷ []) []
+    by true = refl
+    by false = refl
+
+-- the rows of one path more
+pub rows_told-more : (streams : List TrackStream) (a b : ℕ) (paths : List (Vec ℕ Global)) (i : ℕ)
+    (path : Vec ℕ Global) → i < length paths → path ≡ get_or paths i path
+    → rows_told streams a b (map (λ p. p.items) (take (i + 1) paths)) ≡ rows_told streams a b
+    (map (λ p. p.items) (take i paths))
+    ++ cond (path_stands streams a b path.items) (path_row streams a b path.items ∷ []) []
+rows_told-more streams a b paths i path h e =
+    ap (rows_told streams a b)
+    (map-take_more (λ (p : Vec ℕ Global). p.items) paths i path h
+    ∙ ap (λ (p : Vec ℕ Global). map (λ (q : Vec ℕ Global). q.items) (take i paths) ++ p.items ∷ []) (sym e))
+    ∙ rows_told-push streams a b (map (λ (p : Vec ℕ Global). p.items) (take i paths)) path.items

@@ -30,8 +30,8 @@ fn function(event: Event) -> u32
     }
 }
 
-/// Takes the call stack over the event.
-fn step(stack: &mut Vec<u32>, event: Event) -> Result<(), Memory>
+/// Takes the call stack, the outermost call first, over the event.
+pub fn step(stack: &mut Vec<u32>, event: Event) -> Result<(), Memory>
     ensures { OnOk result (stack.new.items ≡ stack_step stack.old.items event) }
 {
     match event {

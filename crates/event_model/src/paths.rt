@@ -1,28 +1,37 @@
 //! The call-tree profile: a row for each call path, in depth-first order.
-ghost use Rattle.std.specs.Prelude.{◌≡◌, ◌+◌, ◌^◌, ◌<◌, ◌≤◌, [], ◌∷◌, ◌++◌, length, IfOk, OnOk};
-ghost use Rattle.trace_base.specs.Flat.{greatest_function};
-ghost use Rattle.trace_base.specs.Paths.{path_row, path_stands, paths, rows_under};
+ghost use Rattle.std.specs.Prelude.{◌≡◌, ◌^◌, ◌<◌, ◌≤◌, [], ◌∷◌, map, All, IfOk};
+ghost use Rattle.event_model.specs.PathRows.{rows_told, IsOfOpenCalls};
+ghost use Rattle.trace_base.specs.Paths.{call_paths, path_row, path_stands, paths};
 ghost use Rattle.trace_base.specs.Stream.{IsLegal};
 
 use crate::part::Part;
-use crate::pass::{calls_into, greatest_in, time_in};
+use crate::pass::{calls_into, step, time_in};
 use std::alloc::Global;
+use std::collections::BTreeSet;
 use trace_base::{Memory, PathProfile, PathRow, Seq, TrackStream};
 
-/// The greatest function that the stream enters, 0 where there is none.
-#[tactic(auto, unfolding(trace_base::specs::Flat::greatest_function))]
-fn greatest_of(s: &TrackStream) -> u32
-    ensures { result ≡ greatest_function (s.now ∷ []) }
+/// The different call paths of the stream, in depth-first order.
+fn call_paths_of(alloc: Global, s: &TrackStream) -> Result<Vec<Vec<u32>>, Memory>
+    requires { IsLegal s.now }
+    ensures exact { IfOk result (λ paths. map (λ path. path.items) paths.items ≡ call_paths (s.now ∷ [])) }
+    ensures open { IfOk result (λ paths. All (λ path. IsOfOpenCalls path.items) paths.items) }
 {
-    greatest_in(s, 0)
+    let mut stack = Vec::new(alloc);
+    let mut paths: BTreeSet<Vec<u32>> = BTreeSet::new(alloc);
+    for event in s.events.as_slice() {
+        step(&mut stack, *event)?;
+        if !stack.is_empty() {
+            paths.insert(Vec::from_slice(alloc, stack.as_slice())?)?;
+        }
+    }
+    Ok(paths.into_iter().collect(alloc)?)
 }
 
 /// What the path took within [a, b).
 #[tactic(auto, unfolding(trace_base::specs::Paths::path_row))]
 fn row(alloc: Global, s: &TrackStream, a: u64, b: u64, path: &[u32]) -> Result<PathRow, Memory>
     requires legal { IsLegal s.now }
-    requires some { 1 ≤ length path.now }
-    requires depth { length path.now ≤ 256 }
+    requires open { IsOfOpenCalls path.now }
     ensures { IfOk result (λ r. r ≡ path_row (s.now ∷ []) a b path.now) }
 {
     Ok(PathRow {
@@ -45,34 +54,25 @@ fn stands(alloc: Global, s: &TrackStream, a: u64, b: u64, path: &[u32]) -> Resul
     Ok(calls > 0 || time > 0)
 }
 
-/// Adds the rows of the paths that begin with this one and are at most so many calls longer, in depth-first
-/// order. The path is as before on `Ok`.
-fn add_rows_under(
+/// The rows of the paths that stand, in the order of the paths.
+fn rows_of(
     alloc: Global,
     s: &TrackStream,
     a: u64,
     b: u64,
-    more: u16,
-    path: &mut Vec<u32>,
-    rows: &mut Seq<PathRow>,
-) -> Result<(), Memory>
+    paths: &[Vec<u32>],
+) -> Result<Seq<PathRow>, Memory>
     requires legal { IsLegal s.now }
-    requires depth { length path.old.items + more ≤ 256 }
-    ensures added { OnOk result (rows.new ≡ rows.old ++ rows_under more (s.now ∷ []) a b path.old.items) }
-    ensures path { OnOk result (path.new.items ≡ path.old.items) }
+    requires open { All (λ path. IsOfOpenCalls path.items) paths.now }
+    ensures { IfOk result (λ rows. rows ≡ rows_told (s.now ∷ []) a b (map (λ path. path.items) paths.now)) }
 {
-    if more == 0 {
-        return Ok(());
-    }
-    for i in 0..greatest_of(s) {
-        path.push(i + 1)?;
+    let mut rows = Seq::new(alloc);
+    for path in paths {
         if stands(alloc, s, a, b, path.as_slice())? {
             rows.push(row(alloc, s, a, b, path.as_slice())?)?;
-            add_rows_under(alloc, s, a, b, more - 1, path, rows)?;
         }
-        path.pop();
     }
-    Ok(())
+    Ok(rows)
 }
 
 /// The call-tree profile of one legal stream over [a, b), half open and in nanoseconds: a row for each call
@@ -85,9 +85,8 @@ pub fn paths_of(alloc: Global, s: &TrackStream, a: u64, b: u64) -> Result<PathPr
     requires limit { b ≤ 2 ^ 62 }
     ensures { IfOk result (λ p. p ≡ paths (s.now ∷ []) a b) }
 {
-    let mut rows = Seq::new(alloc);
-    let mut path = Vec::new(alloc);
-    add_rows_under(alloc, s, a, b, 256, &mut path, &mut rows)?;
+    let paths = call_paths_of(alloc, s)?;
+    let rows = rows_of(alloc, s, a, b, paths.as_slice())?;
     let bare = u128::from(time_in(alloc, s, Part::Bare, a, b)?);
     Ok(PathProfile { bare, rows })
 }
