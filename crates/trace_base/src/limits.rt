@@ -10,6 +10,9 @@ pub const MAX_TIME: u64 = 4_611_686_018_427_387_904;
 /// Bytes of the text of one trace.
 pub const MAX_TEXT: u64 = 67_108_864;
 
+/// Bytes of a text in the small form, the greatest that a PUT takes so far.
+pub const MAX_SMALL_TEXT: u64 = 65_536;
+
 /// Bytes of one line of a trace, without its end.
 pub const MAX_TRACE_LINE: usize = 65_536;
 
