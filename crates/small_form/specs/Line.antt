@@ -4,6 +4,7 @@ use Rattle.std.specs.Prelude.{if◌then◌else◌, List, [], ◌∷◌, length, 
 use Rattle.std.specs.Prelude.{codes, Option, Some, None, option_map, option_and_then}
 use Rattle.std.specs.List.{list_all}
 use Rattle.std.specs.Str.{bytes_eq}
+use Rattle.trace_base.specs.declared.limits.TheConstants.{MAX_TIME}
 
 -- what a line does with its container: creates it under a label, enters a function, leaves a call, or
 -- destroys it
@@ -64,7 +65,7 @@ nanoseconds whole fraction = number whole * 10 ^ 9 + number fraction * 10 ^ (9 -
 
 -- the time, if it is within the limit
 abbrev pub within_limit : ℕ → Option ℕ
-within_limit t = if nat_le t (2 ^ 62) then Some t else None
+within_limit t = if nat_le t MAX_TIME then Some t else None
 
 -- the time of 1 to 10 digits, and 1 to 9 behind a point
 unfoldable pub time_of_parts : List ℕ → List ℕ → Option ℕ

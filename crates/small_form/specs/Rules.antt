@@ -3,6 +3,7 @@ use Rattle.std.specs.Prelude.{ℕ, ◌-◌, Bool, true, false, not, ◌&&◌, �
 use Rattle.std.specs.Prelude.{◌++◌, filter, find, count_by, is_some}
 use Rattle.std.specs.List.{list_any, list_all}
 use Rattle.std.specs.Str.{bytes_eq}
+use Rattle.trace_base.specs.declared.limits.TheConstants.{MAX_OPEN_CALLS}
 use Rattle.small_form.specs.Line.{SmallLine, Act, Creates, Enters, Leaves, Destroys}
 
 abbrev pub is_creates : Act → Bool
@@ -59,7 +60,7 @@ open_calls own = count_by enters own - count_by leaves own
 -- what may be done after these lines of the container
 abbrev pub may_do : List SmallLine → Act → Bool
 may_do own (Creates label) = not (list_any creates own)
-may_do own (Enters function) = is_alive own && nat_lt (open_calls own) 256
+may_do own (Enters function) = is_alive own && nat_lt (open_calls own) MAX_OPEN_CALLS
 may_do own Leaves = is_alive own && nat_lt 0 (open_calls own)
 may_do own Destroys = is_alive own && (nat_lt 0 (count_by enters own) && open_calls own == 0)
 

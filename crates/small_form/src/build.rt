@@ -8,7 +8,7 @@ ghost use Rattle.small_form.specs.View.{view, views};
 
 use crate::line::{Action, Line};
 use std::alloc::Global;
-use trace_base::{Event, Memory, Name};
+use trace_base::{Event, MAX_FUNCTIONS, MAX_SMALL_TEXT, Memory, Name};
 
 /// The greatest time of the lines, 0 where there is none.
 pub(crate) fn greatest_time_of(lines: &[Line<'_>]) -> u64
@@ -87,7 +87,7 @@ pub(crate) fn track_names_of<'a>(alloc: Global, lines: &[Line<'a>]) -> Result<Ve
 
 /// The number of the container with this name: its place among those that are created, counted from 1.
 pub(crate) fn container_number(lines: &[Line<'_>], name: &[u8]) -> u32
-    requires { length lines.now ≤ 65536 }
+    requires { length lines.now ≤ MAX_SMALL_TEXT }
     ensures { result ≡ place name.now (created_names (views lines.now)) + 1 }
 {
     let mut number = 1;
@@ -116,7 +116,7 @@ pub(crate) fn start_of_container(lines: &[Line<'_>], name: &[u8]) -> u64
 
 /// The event of a call that a line tells, with the function's number, counted from 1.
 pub(crate) fn event_of_line(line: &Line<'_>, functions: &[Name]) -> Option<Event>
-    requires { length functions.now ≤ 65536 }
+    requires { length functions.now ≤ MAX_FUNCTIONS }
     ensures { result ≡ event_of functions.now (view line.now) }
 {
     match line.action {

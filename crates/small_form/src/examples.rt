@@ -1,5 +1,6 @@
 //! The definitions, computed on small texts. Each clause is the equation; the bodies are empty.
-ghost use Rattle.std.specs.Prelude.{◌≡◌, ◌^◌, length, Some, None, codes};
+ghost use Rattle.std.specs.Prelude.{◌≡◌, length, Some, None, codes};
+ghost use Rattle.trace_base.specs.declared.limits.TheConstants.{MAX_TIME};
 ghost use Rattle.small_form.specs.Line.{Creates, Enters, Leaves, Destroys, line, line_of, time_of};
 ghost use Rattle.small_form.specs.SmallForm.{small_form};
 ghost use Rattle.small_form.specs.Examples.{two_calls, two_calls_said, two_tracks, two_tracks_said};
@@ -10,7 +11,7 @@ ghost use Rattle.small_form.specs.Examples.{one_destroyed};
 pub fn times_of_words()
     ensures whole { time_of (codes "12") ≡ Some 12000000000 }
     ensures single { time_of (codes "0.000000002") ≡ Some 2 }
-    ensures greatest { time_of (codes "4611686018.427387904") ≡ Some (2 ^ 62) }
+    ensures greatest { time_of (codes "4611686018.427387904") ≡ Some MAX_TIME }
     ensures above { time_of (codes "4611686018.427387905") ≡ None }
     ensures long { time_of (codes "00000000000") ≡ None }
     ensures no_digit { time_of (codes "1.") ≡ None }

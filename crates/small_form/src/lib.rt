@@ -8,11 +8,11 @@
 //! - `5 t S p` leaves the innermost call;
 //! - `3 t P p` destroys the container.
 //!
-//! A time is 1 to 10 digits of seconds, which a point and 1 to 9 digits may follow, and at most 2^62
+//! A time is 1 to 10 digits of seconds, which a point and 1 to 9 digits may follow, and at most `MAX_TIME`
 //! nanoseconds. `p` is a letter and up to 31 letters or digits, `v` 1 to 32 letters or digits, and `n` 1 to
 //! 32 letters, digits and spaces. A container is created once, before its other lines, has at least one call
-//! and at most 256 that are open at once, and is destroyed once, with none open. The times of its lines don't
-//! fall.
+//! and at most `MAX_OPEN_CALLS` that are open at once, and is destroyed once, with none open. The times of
+//! its lines don't fall.
 #![tactic(auto)]
 
 mod build;

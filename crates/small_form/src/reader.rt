@@ -8,13 +8,13 @@ use crate::lines::read_small_lines;
 use crate::rules::legal;
 use crate::trace::trace_of;
 use std::alloc::Global;
-use trace_base::TraceText;
+use trace_base::{MAX_SMALL_TEXT, TraceText};
 
-/// Reads a text of at most 65,536 bytes in the small form. What it answers is a legal trace without messages.
+/// Reads a text of at most `MAX_SMALL_TEXT` bytes in the small form. What it answers is a legal trace without messages.
 /// `Unbuilt` where the text isn't in the small form, and `Memory` where none was found.
 #[tactic(auto, unfolding(crate::specs::SmallForm::small_form))]
 pub fn read_small(alloc: Global, text: &[u8]) -> Result<TraceText, SmallFault>
-    requires { length text.now ≤ 65536 }
+    requires { length text.now ≤ MAX_SMALL_TEXT }
     ensures ok { IfOk result (λ t. small_form text.now ≡ Some t) }
     // With the clause `ok`: only a text that isn't in the small form is refused, and each such text is.
     ensures unbuilt { IsErrOf result SmallFault.Unbuilt → small_form text.now ≡ None }

@@ -7,10 +7,11 @@ ghost use Rattle.small_form.specs.View.{view, views};
 
 use crate::line::{Action, Line};
 use crate::tally::Tally;
+use trace_base::{MAX_OPEN_CALLS, MAX_SMALL_TEXT};
 
 /// One more line of the container is counted.
 fn counted(tally: Tally, line: &Line<'_>, time: u64) -> Tally
-    requires { (tally.entered < 65536) × (tally.left < 65536) }
+    requires { (tally.entered < MAX_SMALL_TEXT) × (tally.left < MAX_SMALL_TEXT) }
     ensures { result ≡ tally_more time tally (view line.now) }
 {
     Tally {
@@ -24,7 +25,7 @@ fn counted(tally: Tally, line: &Line<'_>, time: u64) -> Tally
 
 /// What the lines tell of the container with this name.
 fn tally_of(lines: &[Line<'_>], name: &[u8], time: u64) -> Tally
-    requires { length lines.now ≤ 65536 }
+    requires { length lines.now ≤ MAX_SMALL_TEXT }
     ensures { result ≡ tally time (of_container name.now (views lines.now)) }
 {
     let mut found = Tally {
@@ -45,7 +46,7 @@ fn tally_of(lines: &[Line<'_>], name: &[u8], time: u64) -> Tally
 /// Whether the line may follow the lines before it.
 #[tactic(auto, unfolding(crate::specs::Rules::may_follow, crate::specs::Tallies::tally))]
 fn may_stand(before: &[Line<'_>], line: &Line<'_>) -> bool
-    requires { length before.now ≤ 65536 }
+    requires { length before.now ≤ MAX_SMALL_TEXT }
     ensures { result ≡ may_follow (of_container (view line.now).name (views before.now)) (view line.now) }
 {
     let found = tally_of(before, line.name, line.time);
@@ -54,7 +55,7 @@ fn may_stand(before: &[Line<'_>], line: &Line<'_>) -> bool
     found.in_time
         && match line.action {
             Action::Create(_) => !found.created,
-            Action::Enter(_) => alive && open < 256,
+            Action::Enter(_) => alive && open < MAX_OPEN_CALLS,
             Action::Leave => alive && open > 0,
             Action::Destroy => alive && (found.entered > 0 && open == 0),
         }
@@ -62,7 +63,7 @@ fn may_stand(before: &[Line<'_>], line: &Line<'_>) -> bool
 
 /// Whether each line may follow those before it.
 fn each_may_stand(lines: &[Line<'_>]) -> bool
-    requires { length lines.now ≤ 65536 }
+    requires { length lines.now ≤ MAX_SMALL_TEXT }
     ensures { result ≡ all_follow [] (views lines.now) }
 {
     for at in 0..lines.len() {
@@ -100,7 +101,7 @@ fn each_is_destroyed(lines: &[Line<'_>]) -> bool
 /// Whether the lines are those of a small text.
 #[tactic(auto, unfolding(crate::specs::Rules::are_legal))]
 pub(crate) fn legal(lines: &[Line<'_>]) -> bool
-    requires { length lines.now ≤ 65536 }
+    requires { length lines.now ≤ MAX_SMALL_TEXT }
     ensures { result ≡ are_legal (views lines.now) }
 {
     each_may_stand(lines) && each_is_destroyed(lines)

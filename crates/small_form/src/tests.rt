@@ -3,13 +3,13 @@ use crate::lines::HEAD;
 use crate::reader::read_small;
 use std::alloc::{AllocError, Global};
 use std::test::*;
-use trace_base::{Event, Name, TraceText, TrackStream};
+use trace_base::{Event, MAX_SMALL_TEXT, Name, TraceText, TrackStream};
 
 /// Reads the head and these lines behind it.
 fn read(alloc: Global, lines: &[u8]) -> Result<TraceText, SmallFault> {
     let mut text = Vec::from_slice(alloc, HEAD)?;
     text.extend_from_slice(lines)?;
-    if text.len() > 65_536 {
+    if text.len() > MAX_SMALL_TEXT as usize {
         return Err(SmallFault::Memory);
     }
     read_small(alloc, &text)

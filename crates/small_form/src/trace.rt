@@ -12,7 +12,10 @@ use crate::build::{
 use crate::line::{Action, Line};
 use crate::rules::end_of_container;
 use std::alloc::Global;
-use trace_base::{Container, Event, Memory, Name, Seq, TraceNames, TraceText, Track, TrackStream};
+use trace_base::{
+    Container, Event, MAX_FUNCTIONS, MAX_SMALL_TEXT, Memory, Name, Seq, TraceNames, TraceText,
+    Track, TrackStream,
+};
 
 /// The root, and the containers in the order of their creation.
 fn containers_of(alloc: Global, lines: &[Line<'_>]) -> Result<Vec<Container>, Memory>
@@ -43,7 +46,7 @@ fn events_of(
     functions: &[Name],
     name: &[u8],
 ) -> Result<Vec<Event>, Memory>
-    requires { length functions.now ≤ 65536 }
+    requires { length functions.now ≤ MAX_FUNCTIONS }
     ensures { IfOk result (λ v. v.items ≡ filter_map (event_of functions.now)
         (of_container name.now (views lines.now))) }
 {
@@ -65,7 +68,7 @@ fn streams_of(
     functions: &[Name],
     names: &[&[u8]],
 ) -> Result<Vec<TrackStream>, Memory>
-    requires few { length functions.now ≤ 65536 }
+    requires few { length functions.now ≤ MAX_FUNCTIONS }
     requires same { functions.now ≡ small.functions (views lines.now) }
     ensures { IfOk result (λ v. v.items ≡ map (stream_of (views lines.now)) (map (λ r. r.now) names.now)) }
 {
@@ -82,7 +85,7 @@ fn streams_of(
 
 /// The container and the kind of each track.
 fn tracks_of(alloc: Global, lines: &[Line<'_>], names: &[&[u8]]) -> Result<Vec<Track>, Memory>
-    requires { length lines.now ≤ 65536 }
+    requires { length lines.now ≤ MAX_SMALL_TEXT }
     ensures { IfOk result (λ v. v.items ≡ map (track_of (views lines.now)) (map (λ r. r.now) names.now)) }
 {
     let mut tracks = Vec::new(alloc);
@@ -107,7 +110,7 @@ fn kinds_of(alloc: Global) -> Result<Vec<Name>, Memory>
 /// What legal lines say.
 #[tactic(auto, unfolding(crate::specs::SmallForm::names_of, crate::specs::SmallForm::text_of))]
 pub(crate) fn trace_of(alloc: Global, lines: &[Line<'_>]) -> Result<TraceText, Memory>
-    requires { length lines.now ≤ 65536 }
+    requires { length lines.now ≤ MAX_SMALL_TEXT }
     ensures { IfOk result (λ t. t ≡ text_of (views lines.now)) }
 {
     let functions = functions_of(alloc, lines)?;

@@ -1,6 +1,8 @@
 -- Which names and messages are a legal trace, and which stream fits one of its tracks.
-use Rattle.std.specs.Prelude.{◌≡◌, ℕ, ◌+◌, ◌*◌, ◌^◌, ◌≤◌, ◌<◌, length, slice_get, All, Some}
+use Rattle.std.specs.Prelude.{◌≡◌, ℕ, ◌+◌, ◌*◌, ◌≤◌, ◌<◌, length, slice_get, All, Some}
 use Rattle.trace_base.specs.Stream.{IsLegal}
+use Rattle.trace_base.specs.declared.limits.TheConstants.{MAX_TIME, MAX_CONTAINERS, MAX_TYPES, MAX_TRACKS}
+use Rattle.trace_base.specs.declared.limits.TheConstants.{MAX_FUNCTIONS, MAX_LINK_EVENTS}
 use Rattle.trace_base.specs.declared.names.Container.{Container}
 use Rattle.trace_base.specs.declared.names.Track.{Track}
 use Rattle.trace_base.specs.declared.names.TraceNames.{TraceNames}
@@ -11,7 +13,7 @@ use Rattle.trace_base.specs.declared.stream.TrackStream.{TrackStream}
 
 -- the container exists in an interval within the limits
 abbrev pub IsLegalContainer : Container → Type 0
-IsLegalContainer c = (c.start ≤ c.end) × (c.end ≤ 2 ^ 62)
+IsLegalContainer c = (c.start ≤ c.end) × (c.end ≤ MAX_TIME)
 
 -- the track's container and kind exist
 abbrev pub NamesExisting : TraceNames → Track → Type 0
@@ -23,11 +25,11 @@ JoinsExisting names m = (m.from < length names.containers) × (m.to < length nam
 
 -- the lists are within the limits, a message counting as two link events, and what they name exists
 pub record IsLegalInfo (info : TraceInfo) : Type 0 where
-  pub containers : length info.names.containers ≤ 65536
-  pub types : length info.names.kinds + length info.names.link_kinds ≤ 4096
-  pub tracks : length info.names.tracks ≤ 4096
-  pub functions : length info.names.functions ≤ 65536
-  pub messages : 2 * length info.messages.messages ≤ 4194304
+  pub containers : length info.names.containers ≤ MAX_CONTAINERS
+  pub types : length info.names.kinds + length info.names.link_kinds ≤ MAX_TYPES
+  pub tracks : length info.names.tracks ≤ MAX_TRACKS
+  pub functions : length info.names.functions ≤ MAX_FUNCTIONS
+  pub messages : 2 * length info.messages.messages ≤ MAX_LINK_EVENTS
   pub intervals : All IsLegalContainer info.names.containers
   pub existing : All (NamesExisting info.names) info.names.tracks
   -- no two tracks are the same pair of a container and a kind

@@ -33,8 +33,8 @@ is_to_fail s = is_one_of (failing_writes s) (writes_so_far s)
 abbrev pub share : MemSink → ℕ → ℕ
 share s offered = min offered (step_of s)
 
--- The answer to a write of so many bytes: it fails where it is one of those that fail, and otherwise only where
--- the sink has no room and a growth was refused; else it takes its share.
+-- The answer to a write of so many bytes: it fails where it is one of those that fail, and otherwise only
+-- where the sink has no room and a growth was refused; else it takes its share.
 abbrev pub AnswersWrite : MemSink → ℕ → WriteAnswer → Type 0
 AnswersWrite s offered (Took n) = (is_to_fail s ≡ false) × (n ≡ share s offered)
 AnswersWrite s offered Failed =

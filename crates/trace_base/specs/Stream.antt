@@ -1,8 +1,10 @@
 -- What the raw events of a track mean: the call stack, its pieces in time, and which streams are legal.
-use Rattle.std.specs.Prelude.{◌≡◌, ◌≢◌, ℕ, ◌+◌, ◌-◌, ◌^◌, ◌≤◌, Bool, true, false, List, [], ◌∷◌, ◌++◌, length}
+use Rattle.std.specs.Prelude.{◌≡◌, ◌≢◌, ℕ, ◌+◌, ◌-◌, ◌≤◌, Bool, true, false, List, [], ◌∷◌, ◌++◌, length}
 use Rattle.std.specs.Prelude.{take, map, fold, filter, slice_index, slice_get, Some}
 use Rattle.std.specs.List.{range_with_len}
 use Rattle.std.specs.List.Sorted.{IsNonDecreasing}
+use Rattle.trace_base.specs.declared.limits.TheConstants.{MAX_TIME, MAX_OPEN_CALLS, MAX_STATE_EVENTS}
+use Rattle.trace_base.specs.declared.limits.TheConstants.{MAX_FUNCTIONS}
 use Rattle.trace_base.specs.declared.stream.Event.{Event}
 use Rattle.trace_base.specs.declared.stream.Event.TheVariants.{Enter, Leave}
 use Rattle.trace_base.specs.declared.stream.TrackStream.{TrackStream}
@@ -51,10 +53,10 @@ pieces s = map (piece s) (range_with_len 0 (length s.events + 1))
 -- The stream of a track within the limits: times don't fall and lie from its start to its end, each Leave
 -- closes a call that is open, and none is left open.
 pub record IsLegal (s : TrackStream) : Type 0 where
-  pub in_time : s.end ≤ 2 ^ 62
+  pub in_time : s.end ≤ MAX_TIME
   pub in_order : IsNonDecreasing (moments s)
   pub closes_open : (i t : ℕ) → slice_get s.events i ≡ Some (Leave t) → stack_after (take i s.events) ≢ []
   pub all_closed : stack_after s.events ≡ []
-  pub depth : (i : ℕ) → length (stack_after (take i s.events)) ≤ 256
-  pub calls : length (filter is_enter s.events) ≤ 4194304
-  pub functions : (i f t : ℕ) → slice_get s.events i ≡ Some (Enter f t) → (1 ≤ f) × (f ≤ 65536)
+  pub depth : (i : ℕ) → length (stack_after (take i s.events)) ≤ MAX_OPEN_CALLS
+  pub calls : length (filter is_enter s.events) ≤ MAX_STATE_EVENTS
+  pub functions : (i f t : ℕ) → slice_get s.events i ≡ Some (Enter f t) → (1 ≤ f) × (f ≤ MAX_FUNCTIONS)

@@ -22,8 +22,8 @@ impl MemSink {
     ghost use Rattle.trace_base.specs.MemSink.{bytes_held, writes_so_far, failing_writes, step_of};
     ghost use Rattle.trace_base.specs.MemSink.{sink_faults};
 
-    /// An empty sink. A write takes no more than `step` bytes. The writes whose numbers, counted from 0, stand
-    /// in `fails` fail, and so does one that finds no memory for its bytes.
+    /// An empty sink. A write takes no more than `step` bytes. The writes whose numbers, counted from 0,
+    /// stand in `fails` fail, and so does one that finds no memory for its bytes.
     pub fn new(alloc: Global, step: usize, fails: Seq<u64>) -> MemSink
         requires { 1 ≤ step }
         ensures held { bytes_held result ≡ [] }
@@ -66,8 +66,8 @@ impl Sink for MemSink {
 
     ghost held = { λ s. Some (bytes_held s) };
 
-    /// Takes the first `step` bytes, or all of fewer, unless this write is one of those that fail or no memory
-    /// was found for them.
+    /// Takes the first `step` bytes, or all of fewer, unless this write is one of those that fail or no
+    /// memory was found for them.
     fn write(&mut self, bytes: &[u8]) -> WriteAnswer
         requires { 0 < length bytes.now }
         ensures written { Writes (Some (bytes_held self.old)) (Some (bytes_held self.new)) bytes.now result }

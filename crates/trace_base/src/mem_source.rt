@@ -19,8 +19,8 @@ pub struct MemSource {
 impl MemSource {
     ghost use Rattle.trace_base.specs.MemSource.{bytes_left, reads_so_far, failing_reads, source_faults};
 
-    /// A source that gives these bytes. The reads whose numbers, counted from 0, stand in `fails` fail, and no
-    /// others.
+    /// A source that gives these bytes. The reads whose numbers, counted from 0, stand in `fails` fail, and
+    /// no others.
     pub fn new(bytes: Seq<u8>, fails: Seq<u64>) -> MemSource
         ensures left { bytes_left result ≡ bytes }
         ensures reads { reads_so_far result ≡ 0 }
