@@ -1,22 +1,22 @@
-//! The program `cccgd`, and its edge: standard input and output.
+//! The program `cccgd`, and its edge: its words, standard input and output.
 #![tactic(auto)]
 
 mod standard;
 #[cfg(test)]
 mod tests;
+mod words;
 
 use standard::{StandardInput, StandardOutput};
 use std::process::ExitCode;
-use std::{env, io};
 use trace_session::run;
+use words::{without_words, words};
 
-fn main(rt: HostRuntime) -> io::Result<ExitCode> {
-    let mut words = Vec::new(rt.alloc());
-    for word in env::args(&rt)?.skip(1) {
-        words.push(word)?;
-    }
+fn main(rt: HostRuntime) -> ExitCode {
     let mut input = StandardInput::new(rt.stdin());
     let mut output = StandardOutput::new(rt.stdout());
-    let status = run(&rt, rt.alloc(), words.as_slice(), &mut input, &mut output);
-    Ok(ExitCode::from(status))
+    let status = match words(&rt) {
+        Ok(words) => run(&rt, rt.alloc(), words.as_slice(), &mut input, &mut output),
+        Err(why) => without_words(&rt, rt.alloc(), why, &mut input, &mut output),
+    };
+    ExitCode::from(status)
 }
