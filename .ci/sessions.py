@@ -2,6 +2,7 @@
 """Runs the program on sessions whose replies are worked out by hand, and compares what it writes and its
 status. The program is the file that the one word names, or else the one that the script `cccgd` runs."""
 import os
+import resource
 import select
 import subprocess
 import sys
@@ -174,6 +175,24 @@ def waits_too_long():
             program.kill()
 
 
+def starved(limit):
+    """What the program writes of the first session with so much memory, its status, and how much it read."""
+    with tempfile.TemporaryFile() as given:
+        given.write(FIRST)
+        given.seek(0)
+        done = subprocess.run([PROGRAM, "batch"], stdin=given, capture_output=True, check=False,
+                              preexec_fn=lambda: resource.setrlimit(resource.RLIMIT_DATA, (limit, limit)))
+        return done.stdout, done.returncode, os.lseek(given.fileno(), 0, os.SEEK_CUR)
+
+
+def begins_without_memory():
+    """Whether want of memory to begin isn't answered by 5 alone, with nothing read or written."""
+    ends = [starved(limit) for limit in range(64 << 10, 512 << 10, 8 << 10)]
+    # With the least memory the system doesn't start the program, and with the most it ends well.
+    ends = [ended for ended in ends if ended[1] not in (0, 127, -11)]
+    return not ends or any(ended != (b"", 5, 0) for ended in ends)
+
+
 def scripts():
     """The scripts and their words, run through links too and in another folder, with whether all is well."""
     quiet = {"stderr": subprocess.STDOUT} if PROGRAM != SCRIPT else {}
@@ -202,6 +221,8 @@ def results():
             yield name + " for the words " + repr(words), run(words, b"QUIT\n", output)[1] != 3
         os.close(output)
     yield "a reply is written before more is read", waits_too_long()
+    if PROGRAM != SCRIPT:
+        yield "no memory to begin", begins_without_memory()
     for name, is_well in scripts():
         yield name, not is_well
 
