@@ -36,7 +36,8 @@ fn cause(error: io::Error) -> NoWords
     }
 }
 
-/// The words behind the program's own name.
+/// The words behind the program's own name. `Memory` where none was found for them, `NotText` where a word,
+/// or that name, is no UTF-8.
 pub fn words<R: Env + AllocGlobal>(rt: &R) -> Result<Vec<String>, NoWords> {
     let all = env::args(rt).map_err(cause)?;
     let mut words = Vec::new(rt.alloc());
