@@ -13,13 +13,13 @@ use Rattle.trace_base.specs.declared.stream.Event.{Event}
 use Rattle.trace_base.specs.declared.stream.Event.TheVariants.{Enter, Leave}
 use Rattle.small_form.specs.Line.{SmallLine, Act, Creates, Enters, Leaves, Destroys}
 use Rattle.small_form.specs.Rules.{enters, leaves, is_alive, may_do, may_follow}
-use Rattle.small_form.specs.SmallForm.{place, event_of}
+use Rattle.small_form.specs.SmallForm.{place, small_event_of}
 use Rattle.small_form.proofs.Following.{count_push}
 use Rattle.small_form.proofs.Own.{own_follow}
 
 -- the events of lines
 abbrev pub events : List (List ℕ) → List SmallLine → List Event
-events functions own = filter_map (event_of functions) own
+events functions own = filter_map (small_event_of functions) own
 
 get_push : {X : Type 0} (xs : List X) (x y : X) (i : ℕ) → slice_get (xs ++ x ∷ []) i ≡ Some y
     → ((i < length xs) × (slice_get xs i ≡ Some y)) ⊎ ((i ≡ length xs) × (x ≡ y))
@@ -71,16 +71,19 @@ shallow_push es e before one i =
     ]
 
 events_push : (functions : List (List ℕ)) (own : List SmallLine) (l : SmallLine) (e : Event)
-    → event_of functions l ≡ Some e → events functions (own ++ l ∷ []) ≡ events functions own ++ e ∷ []
-events_push functions own l e h = filter_map-append (event_of functions) own (l ∷ []) ∙ rw h refl
+    → small_event_of functions l ≡ Some e → events functions (own ++ l ∷ []) ≡ events functions own ++ e ∷ []
+events_push functions own l e h = filter_map-append (small_event_of functions) own (l ∷ []) ∙ rw h refl
 
-events_same : (functions : List (List ℕ)) (own : List SmallLine) (l : SmallLine) → event_of functions l ≡ None
+events_same : (functions : List (List ℕ)) (own : List SmallLine) (l : SmallLine)
+    → small_event_of functions l ≡ None
     → events functions (own ++ l ∷ []) ≡ events functions own
-events_same functions own l h = filter_map-append (event_of functions) own (l ∷ []) ∙ rw h (append-nil _)
+events_same functions own l h = filter_map-append (small_event_of functions) own (l ∷ []) ∙ rw h
+    (append-nil _)
 
 -- a line without an event
 quiet_step : (functions : List (List ℕ)) (own : List SmallLine) (l : SmallLine) → Sound functions own
-    → event_of functions l ≡ None → enters l ≡ false → leaves l ≡ false → Sound functions (own ++ l ∷ [])
+    → small_event_of functions l ≡ None → enters l ≡ false → leaves l ≡ false
+    → Sound functions (own ++ l ∷ [])
 quiet_step functions own l s none entered left =
     let e = events_same functions own l none in
     record {

@@ -8,7 +8,7 @@ use Rattle.std.proofs.lemmas.Bool.{cases_Bool, ltb-false}
 use Rattle.std.proofs.lemmas.List.Quantifiers.{position-Some}
 use Rattle.std.proofs.lemmas.List.{append-nil}
 use Rattle.std.proofs.lemmas.Option.{none-some, same_Some}
-use Rattle.small_form.specs.Line.{SmallLine, ◌>>=◌, parts_at, line_of}
+use Rattle.small_form.specs.Line.{SmallLine, ◌>>=◌, parts_at, small_line_of}
 use Rattle.small_form.specs.SmallForm.{onto_line, whole_lines, each_of, said_in}
 
 -- a prefix that was stripped, or wasn't there
@@ -48,15 +48,15 @@ position_cases bs = elim (position (λ b. b == 10) bs) as (λ o. (o ≡ None) �
 
 -- what the line at the front says, and the lines behind it
 pub front_said : (bs : List ℕ) (i : ℕ) → position (λ b. b == 10) bs ≡ Some i
-    → said_in bs ≡ line_of (take i bs) >>= (λ l. option_map (λ ls. l ∷ ls) (said_in (drop (i + 1) bs)))
+    → said_in bs ≡ small_line_of (take i bs) >>= (λ l. option_map (λ ls. l ∷ ls) (said_in (drop (i + 1) bs)))
 unfolding said_in each_of
 front_said bs i h =
     let at = position-Some (λ b. b == 10) bs i 0 h in
     rw (add-one, front_line bs i at.0 at.1 at.2)
-    (elim (whole_lines (drop (suc i) bs)) as (λ w. option_and_then (each_of line_of)
+    (elim (whole_lines (drop (suc i) bs)) as (λ w. option_and_then (each_of small_line_of)
     (option_map (λ ls. take i bs ∷ ls) w) ≡ option_and_then
-    (λ l. option_map (λ ls. l ∷ ls) (option_and_then (each_of line_of) w)) (line_of (take i bs)))
-    [ None ↦ no_more (line_of (take i bs)) | Some ls ↦ refl ])
+    (λ l. option_map (λ ls. l ∷ ls) (option_and_then (each_of small_line_of) w)) (small_line_of (take i bs)))
+    [ None ↦ no_more (small_line_of (take i bs)) | Some ls ↦ refl ])
 
 -- where there is no newline, the last line lacks its own
 no_end : (b : ℕ) (bs : List ℕ) → length (b ∷ bs) ≤ position_or_len (λ x. x == 10) (b ∷ bs)
@@ -99,7 +99,7 @@ front_more front l (Some ls) = ap Some (append_assoc front (l ∷ []) ls)
 -- the next line is said
 pub line_said : (front : List SmallLine) (bs : List ℕ) (x : List ℕ × List ℕ) (l : SmallLine)
     (all : Option (List SmallLine)) → with_front front (said_in bs) ≡ all → parts_at 10 bs ≡ Some x
-    → line_of x.0 ≡ Some l → with_front (front ++ l ∷ []) (said_in x.1) ≡ all
+    → small_line_of x.0 ≡ Some l → with_front (front ++ l ∷ []) (said_in x.1) ≡ all
 unfolding parts_at
 line_said front bs x l all so_far parts said =
     elim (position_cases bs) [
@@ -107,7 +107,8 @@ line_said front bs x l all so_far parts said =
       | inr h ↦
           let e : x ≡ (take h.0 bs, drop (h.0 + 1) bs) =
           same_Some _ _ (sym parts ∙ ap (option_map (λ i. (take i bs, drop (i + 1) bs))) h.1) in
-          let at : line_of (take h.0 bs) ≡ Some l = ap (λ (y : List ℕ × List ℕ). line_of y.0) (sym e) ∙ said
+          let at : small_line_of (take h.0 bs) ≡ Some l = ap (λ (y : List ℕ × List ℕ). small_line_of y.0)
+          (sym e) ∙ said
           in
           let whole : said_in bs ≡ option_map (λ ls. l ∷ ls) (said_in (drop (h.0 + 1) bs)) =
           front_said bs h.0 h.1 ∙ ap
@@ -120,7 +121,7 @@ line_said front bs x l all so_far parts said =
 -- a line says nothing
 pub line_refused : (front : List SmallLine) (bs : List ℕ) (x : List ℕ × List ℕ)
     (all : Option (List SmallLine)) → with_front front (said_in bs) ≡ all → parts_at 10 bs ≡ Some x
-    → line_of x.0 ≡ None → all ≡ None
+    → small_line_of x.0 ≡ None → all ≡ None
 unfolding parts_at
 line_refused front bs x all so_far parts said =
     elim (position_cases bs) [
@@ -128,7 +129,8 @@ line_refused front bs x all so_far parts said =
       | inr h ↦
           let e : x ≡ (take h.0 bs, drop (h.0 + 1) bs) =
           same_Some _ _ (sym parts ∙ ap (option_map (λ i. (take i bs, drop (i + 1) bs))) h.1) in
-          let at : line_of (take h.0 bs) ≡ None = ap (λ (y : List ℕ × List ℕ). line_of y.0) (sym e) ∙ said in
+          let at : small_line_of (take h.0 bs) ≡ None = ap (λ (y : List ℕ × List ℕ). small_line_of y.0)
+          (sym e) ∙ said in
           sym so_far ∙ ap (with_front front)
           (front_said bs h.0 h.1 ∙ ap
           (λ o. o >>= (λ l. option_map (λ ls. l ∷ ls) (said_in (drop (h.0 + 1) bs)))) at)

@@ -11,7 +11,8 @@ use Rattle.std.proofs.lemmas.List.Sums.{sum_by-append}
 use Rattle.small_form.specs.declared.line.Line.{Line}
 use Rattle.small_form.specs.declared.tally.Tally.{Tally}
 use Rattle.small_form.specs.Line.{SmallLine}
-use Rattle.small_form.specs.Rules.{creates, enters, leaves, destroys, is_of, of_container, may_follow}
+use Rattle.small_form.specs.Rules.{creates, enters, leaves, destroys, is_of_container, of_container}
+use Rattle.small_form.specs.Rules.{may_follow}
 use Rattle.small_form.specs.Rules.{all_follow}
 use Rattle.small_form.specs.Tallies.{tally, tally_more}
 use Rattle.small_form.specs.View.{view, views}
@@ -26,14 +27,14 @@ and_true false = refl
 
 -- the lines of a container among one more
 pub own_more : (name : List ℕ) (ls : List SmallLine) (l : SmallLine)
-    → of_container name (ls ++ l ∷ []) ≡ of_container name ls ++ cond (is_of name l) (l ∷ []) []
-own_more name ls l = filter-append (is_of name) ls (l ∷ [])
+    → of_container name (ls ++ l ∷ []) ≡ of_container name ls ++ cond (is_of_container name l) (l ∷ []) []
+own_more name ls l = filter-append (is_of_container name) ls (l ∷ [])
 
-pub own_same : (name : List ℕ) (ls : List SmallLine) (l : SmallLine) → is_of name l ≡ true
+pub own_same : (name : List ℕ) (ls : List SmallLine) (l : SmallLine) → is_of_container name l ≡ true
     → of_container name (ls ++ l ∷ []) ≡ of_container name ls ++ l ∷ []
 own_same name ls l h = own_more name ls l ∙ rw h refl
 
-pub own_other : (name : List ℕ) (ls : List SmallLine) (l : SmallLine) → is_of name l ≡ false
+pub own_other : (name : List ℕ) (ls : List SmallLine) (l : SmallLine) → is_of_container name l ≡ false
     → of_container name (ls ++ l ∷ []) ≡ of_container name ls
 own_other name ls l h = own_more name ls l ∙ rw h (append-nil _)
 
@@ -68,7 +69,8 @@ tally_push time own l =
 -- a line of the container is counted
 pub tally_in : (time : ℕ) (name : List ℕ) (lines : List Line) (i : ℕ) (d : Line) (found next : Tally)
     → i < length lines → found ≡ tally time (of_container name (views (take i lines)))
-    → true ≡ is_of name (view (get_or lines i d)) → next ≡ tally_more time found (view (get_or lines i d))
+    → true ≡ is_of_container name (view (get_or lines i d))
+    → next ≡ tally_more time found (view (get_or lines i d))
     → next ≡ tally time (of_container name (views (take (i + 1) lines)))
 tally_in time name lines i d found next h so_far here is =
     is ∙ rw (
@@ -81,7 +83,7 @@ tally_in time name lines i d found next h so_far here is =
 -- another line isn't
 pub tally_out : (time : ℕ) (name : List ℕ) (lines : List Line) (i : ℕ) (d : Line) (found next : Tally)
     → i < length lines → found ≡ tally time (of_container name (views (take i lines)))
-    → false ≡ is_of name (view (get_or lines i d)) → next ≡ found
+    → false ≡ is_of_container name (view (get_or lines i d)) → next ≡ found
     → next ≡ tally time (of_container name (views (take (i + 1) lines)))
 tally_out time name lines i d found next h so_far other is =
     is ∙ so_far ∙ rw (

@@ -9,8 +9,8 @@ use Rattle.std.proofs.lemmas.Option.{same_Some, none-some}
 use Rattle.trace_base.specs.Stream.{is_enter, IsLegal}
 use Rattle.trace_base.specs.declared.stream.Event.TheVariants.{Enter}
 use Rattle.small_form.specs.Line.{SmallLine, Act, Creates, Enters, Leaves, Destroys}
-use Rattle.small_form.specs.Rules.{enters, is_of, of_container, all_follow}
-use Rattle.small_form.specs.SmallForm.{place, functions, function_of_act, stream_of, end_of}
+use Rattle.small_form.specs.Rules.{enters, is_of_container, of_container, all_follow}
+use Rattle.small_form.specs.SmallForm.{place, functions, function_of_act, small_stream_of, end_of}
 use Rattle.small_form.proofs.Different.{is_in}
 use Rattle.small_form.proofs.Lengths.{length-filter-le, functions_few}
 use Rattle.small_form.proofs.Members.{In, all_from_in, in_all, in_filter, from_filter, in_map}
@@ -82,7 +82,7 @@ no_stack (x ∷ xs) h = absurd (omega arith)
 pub own_known : (ls : List SmallLine) (name : List ℕ) → list_all (known (functions ls)) (of_container name ls)
     ≡ true
 own_known ls name = all_from_in (known (functions ls)) (of_container name ls)
-    (λ l i. function_known ls l (from_filter (is_of name) ls l i).0)
+    (λ l i. function_known ls l (from_filter (is_of_container name) ls l i).0)
 
 -- no time is above the limit
 abbrev pub in_limit : SmallLine → Bool
@@ -91,17 +91,17 @@ in_limit l = nat_le l.time (2 ^ 62)
 pub end_in_limit : (ls : List SmallLine) (name : List ℕ) → Closed (of_container name ls)
     → list_all in_limit ls ≡ true → end_of ls name ≤ 2 ^ 62
 end_in_limit ls name c limit =
-    let i = from_filter (is_of name) ls c.last (last_in (of_container name ls) c) in
+    let i = from_filter (is_of_container name) ls c.last (last_in (of_container name ls) c) in
     rw (destroyed_by (of_container name ls) c) (leb-true _ _ (in_all in_limit ls c.last limit i.0))
 
 pub legal_stream : (ls : List SmallLine) (name : List ℕ) → all_follow [] ls ≡ true
     → Closed (of_container name ls) → list_all in_limit ls ≡ true → length ls ≤ 65536
-    → IsLegal (stream_of ls name)
+    → IsLegal (small_stream_of ls name)
 legal_stream ls name follow c limit few =
     let own = of_container name ls in
     let mine = own_from_all name [] ls follow in
     let s : Sound (functions ls) own = sound_of (functions ls) [] own (sound_none (functions ls)) mine in
-    let short = length-filter-le (is_of name) ls in
+    let short = length-filter-le (is_of_container name) ls in
     record {
       in_time = end_in_limit ls name c limit;
       in_order = subst IsNonDecreasing (sym (own_moments ls name c))

@@ -17,10 +17,12 @@ use Rattle.trace_base.specs.Info.{IsLegalContainer, NamesExisting, IsLegalInfo, 
 use Rattle.trace_base.specs.declared.names.Track.{Track}
 use Rattle.trace_base.specs.declared.stream.TrackStream.{TrackStream}
 use Rattle.small_form.specs.Line.{SmallLine}
-use Rattle.small_form.specs.Rules.{creates, enters, is_of, of_container, all_follow, all_destroyed, are_legal}
+use Rattle.small_form.specs.Rules.{creates, enters, is_of_container, of_container, all_follow, all_destroyed}
+use Rattle.small_form.specs.Rules.{are_legal}
 use Rattle.small_form.specs.SmallForm.{different, place, functions, track_names, created_names, end_of}
-use Rattle.small_form.specs.SmallForm.{container_of, containers, track_of, stream_of, names_of, text_of}
-use Rattle.small_form.specs.SmallForm.{info_of, small_lines}
+use Rattle.small_form.specs.SmallForm.{container_of, containers, track_of, small_stream_of, names_of}
+use Rattle.small_form.specs.SmallForm.{small_text_of}
+use Rattle.small_form.specs.SmallForm.{small_info_of, small_lines}
 use Rattle.small_form.proofs.Different.{is_in, without, same_text, text_same}
 use Rattle.small_form.proofs.Lengths.{length-different, functions_few}
 use Rattle.small_form.proofs.Members.{In, in_all, in_filter, from_filter, in_map, from_map, is_in-different}
@@ -51,7 +53,7 @@ track_created : (ls : List SmallLine) (name : List ℕ) → Good ls → is_in na
     → is_in name (created_names ls) ≡ true
 track_created ls name good h =
     let c = track_closed ls name good h in
-    let i = from_filter (is_of name) ls c.first (first_in (of_container name ls) c) in
+    let i = from_filter (is_of_container name) ls c.first (first_in (of_container name ls) c) in
     ap (λ n. is_in n (created_names ls)) (sym (same_text c.first.name name i.1)) ∙ in_map (λ l. l.name)
     (filter creates ls) c.first (in_filter creates ls c.first i.0 c.created)
 
@@ -148,7 +150,7 @@ container_legal ls l good i =
     let own = of_container l.name ls in
     let c = closed_of ls l good.follow good.gone i in
     let early : l.time ≤ c.last.time = leb-true _ _ (in_all (λ k. nat_le k.time c.last.time) own l c.latest
-    (in_filter (is_of l.name) ls l i (text_same l.name l.name refl))) in
+    (in_filter (is_of_container l.name) ls l i (text_same l.name l.name refl))) in
     (rw (destroyed_by own c) early, end_in_limit ls l.name c good.limit)
 
 -- another container's creation, or a line that creates none, changes nothing but places
@@ -272,8 +274,8 @@ containers_legal ls good = All-from_recursion IsLegalContainer (containers ls) (
 )
 
 -- what legal lines say is a legal trace without messages
-pub legal_info : (ls : List SmallLine) → Good ls → IsLegalInfo (info_of (text_of ls))
-unfolding names_of text_of
+pub legal_info : (ls : List SmallLine) → Good ls → IsLegalInfo (small_info_of (small_text_of ls))
+unfolding names_of small_text_of
 legal_info ls good = record {
   containers = containers_few ls good;
   types = omega arith;
@@ -288,13 +290,16 @@ legal_info ls good = record {
   joined = λ k d h. absurd (omega arith);
 }
 
-pub same_lengths : (ls : List SmallLine) → length (text_of ls).tracks ≡ length (text_of ls).names.tracks
-unfolding names_of text_of
-same_lengths ls = length-map (track_names ls) (stream_of ls) ∙ sym (length-map (track_names ls) (track_of ls))
+pub same_lengths : (ls : List SmallLine) → length (small_text_of ls).tracks ≡ length
+    (small_text_of ls).names.tracks
+unfolding names_of small_text_of
+same_lengths ls = length-map (track_names ls) (small_stream_of ls) ∙ sym
+    (length-map (track_names ls) (track_of ls))
 
 stream_fits : (ls : List SmallLine) (name : List ℕ) (i : ℕ) → Good ls
-    → slice_get (track_names ls) i ≡ Some name → Fits (stream_of ls name) (info_of (text_of ls)) i
-unfolding names_of text_of
+    → slice_get (track_names ls) i ≡ Some name
+    → Fits (small_stream_of ls name) (small_info_of (small_text_of ls)) i
+unfolding names_of small_text_of
 stream_fits ls name i good at =
     let own = of_container name ls in
     let tracked = text_at (track_names ls) i name at in
@@ -322,11 +327,11 @@ stream_fits ls name i good at =
 
 -- each stream may be published as the track of its place
 pub streams_fit : (ls : List SmallLine) → Good ls → (i : ℕ) (s : TrackStream)
-    → slice_get (text_of ls).tracks i ≡ Some s → Fits s (info_of (text_of ls)) i
-unfolding text_of
+    → slice_get (small_text_of ls).tracks i ≡ Some s → Fits s (small_info_of (small_text_of ls)) i
+unfolding small_text_of
 streams_fit ls good i s h =
-    let r = mapped_at (stream_of ls) (track_names ls) i s h in
-    subst (λ t. Fits t (info_of (text_of ls)) i) r.2 (stream_fits ls r.0 i good r.1)
+    let r = mapped_at (small_stream_of ls) (track_names ls) i s h in
+    subst (λ t. Fits t (small_info_of (small_text_of ls)) i) r.2 (stream_fits ls r.0 i good r.1)
 
 -- the lines of a small text are good
 pub good_lines : (text : List ℕ) (ls : List SmallLine) → length text ≤ 65536 → small_lines text ≡ Some ls

@@ -9,7 +9,7 @@ use Rattle.std.proofs.lemmas.Bool.{leb-true, and_parts}
 use Rattle.std.proofs.lemmas.List.Folds.{list_all_at}
 use Rattle.std.proofs.lemmas.List.Sums.{fold_more}
 use Rattle.std.proofs.lemmas.Bool.{true_from_ne_false, both_ways}
-use Rattle.small_form.specs.Line.{number, is_digit}
+use Rattle.small_form.specs.Line.{small_number, is_digit}
 
 -- fewer units than there are in a second are less than a second
 pub units_below : (n power scale : ℕ) → power ≤ 9 → n < 10 ^ power → scale ≡ 10 ^ (9 - power)
@@ -33,10 +33,11 @@ digit_at digits i all h =
     (leb-true _ _ parts.0, leb-true _ _ parts.1)
 
 -- one more digit
-pub number_more : (digits : List ℕ) (i n d : ℕ) → i < length digits → n ≡ number (take i digits) → n < 10 ^ i
-    → d ≡ get_or digits i 0 - 48 → d ≤ 9 → (10 * n + d ≡ number (take (i + 1) digits))
+pub number_more : (digits : List ℕ) (i n d : ℕ) → i < length digits → n ≡ small_number (take i digits)
+    → n < 10 ^ i
+    → d ≡ get_or digits i 0 - 48 → d ≤ 9 → (10 * n + d ≡ small_number (take (i + 1) digits))
     × (10 * n + d < 10 ^ (i + 1))
-unfolding number
+unfolding small_number
 number_more digits i n d h is below digit few =
     let more = fold_more (λ m b. 10 * m + (b - 48)) 0 digits i 0 h in
     (rw (more, digit, is) refl, rw pow_more (omega arith))

@@ -9,7 +9,8 @@ use Rattle.std.proofs.lemmas.List.{append-nil}
 use Rattle.std.proofs.lemmas.List.Folds.{list_any-append, list_all-append}
 use Rattle.small_form.specs.Line.{SmallLine, Act, Creates, Enters, Leaves, Destroys}
 use Rattle.small_form.specs.Rules.{is_creates, is_enters, is_leaves, is_destroys, creates, enters, leaves}
-use Rattle.small_form.specs.Rules.{destroys, is_of, of_container, open_calls, may_do, is_in_time, may_follow}
+use Rattle.small_form.specs.Rules.{destroys, is_of_container, of_container, open_calls, may_do, is_in_time}
+use Rattle.small_form.specs.Rules.{may_follow}
 use Rattle.small_form.specs.Rules.{all_follow}
 use Rattle.small_form.proofs.Different.{same_text}
 use Rattle.small_form.proofs.Following.{own_same, own_other, count_push}
@@ -27,7 +28,7 @@ own_from_all name before [] h = refl
 own_from_all name before (l ∷ ls) h =
     let parts = and_parts (may_follow (of_container l.name before) l) (all_follow (before ++ l ∷ []) ls) h in
     let rest = own_from_all name (before ++ l ∷ []) ls parts.1 in
-    elim (cases_Bool (is_of name l)) [
+    elim (cases_Bool (is_of_container name l)) [
       | inl e ↦
           let one : may_follow (of_container name before) l ≡ true =
           ap (λ n. may_follow (of_container n before) l) (sym (same_text l.name name e)) ∙ parts.0 in

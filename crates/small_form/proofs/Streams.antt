@@ -10,9 +10,10 @@ use Rattle.std.proofs.lemmas.List.Elements.{filter_map-append}
 use Rattle.std.proofs.lemmas.List.Sorted.{IsNonDecreasingBy-push}
 use Rattle.trace_base.specs.Stream.{moments, time_of}
 use Rattle.small_form.specs.Line.{SmallLine, Act, Creates, Enters, Leaves, Destroys}
-use Rattle.small_form.specs.Rules.{is_creates, is_enters, is_leaves, is_destroys, creates, destroys, is_of}
+use Rattle.small_form.specs.Rules.{is_creates, is_enters, is_leaves, is_destroys, creates, destroys}
+use Rattle.small_form.specs.Rules.{is_of_container}
 use Rattle.small_form.specs.Rules.{of_container, is_in_time, may_do, may_follow, all_follow, all_destroyed}
-use Rattle.small_form.specs.SmallForm.{functions, event_of, stream_of}
+use Rattle.small_form.specs.SmallForm.{functions, small_event_of, small_stream_of}
 use Rattle.small_form.proofs.Different.{same_text, text_same}
 use Rattle.small_form.proofs.Members.{In, in_all, in_filter, from_filter}
 use Rattle.small_form.proofs.Own.{own_follow, own_from_all, is_call, Closed, phase_of}
@@ -67,12 +68,13 @@ pub closed_of : (ls : List SmallLine) (l : SmallLine) → all_follow [] ls ≡ t
 unfolding all_destroyed
 closed_of ls l follow gone i =
     let own = of_container l.name ls in
-    let mine : In l own = in_filter (is_of l.name) ls l i (text_same l.name l.name refl) in
+    let mine : In l own = in_filter (is_of_container l.name) ls l i (text_same l.name l.name refl) in
     elim (phase_of [] own (inl refl) (own_from_all l.name [] ls follow)) [
       | inl none ↦ absurd (subst (In l) none mine)
       | inr exists ↦ elim exists [
         | inl o ↦
-            let at = from_filter (is_of l.name) ls o.first (subst (In o.first) (sym o.are) (inl refl)) in
+            let at = from_filter (is_of_container l.name) ls o.first
+            (subst (In o.first) (sym o.are) (inl refl)) in
             let same : o.first.name ≡ l.name = same_text _ _ at.1 in
             let ends : (not (creates o.first) || is_some (find destroys (of_container o.first.name ls))) ≡
             true = in_all (λ k. not (creates k) || is_some (find destroys (of_container k.name ls))) ls
@@ -88,7 +90,7 @@ closed_of ls l follow gone i =
 
 -- the events of a container are those of its calls
 no_event : (functions : List (List ℕ)) (time : ℕ) (name : List ℕ) (a : Act) → (is_creates a ≡ true)
-    ⊎ (is_destroys a ≡ true) → event_of functions (record { time = time; name = name; act = a }) ≡ None
+    ⊎ (is_destroys a ≡ true) → small_event_of functions (record { time = time; name = name; act = a }) ≡ None
 no_event functions time name (Creates label) h = refl
 no_event functions time name (Enters function) h = elim h [ inl e ↦ cc | inr e ↦ cc ]
 no_event functions time name Leaves h = elim h [ inl e ↦ cc | inr e ↦ cc ]
@@ -101,7 +103,7 @@ events_of_closed functions own c =
       c.are,
       no_event functions c.first.time c.first.name c.first.act (inl c.created),
       filter_map-append
-          (event_of functions) c.calls (c.last ∷ []),
+          (small_event_of functions) c.calls (c.last ∷ []),
       no_event functions c.last.time c.last.name c.last.act
           (inr c.destroyed),
     )
@@ -124,7 +126,7 @@ call_times functions (l ∷ ls) h = let parts = and_parts (is_call l) (list_all 
 
 -- between two moments of the container stands a line's time
 pub own_moments : (ls : List SmallLine) (name : List ℕ) (c : Closed (of_container name ls))
-    → moments (stream_of ls name) ≡ map (λ l. l.time) (of_container name ls)
+    → moments (small_stream_of ls name) ≡ map (λ l. l.time) (of_container name ls)
 own_moments ls name c =
     let own = of_container name ls in
     rw (

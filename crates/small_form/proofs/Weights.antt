@@ -9,9 +9,9 @@ use Rattle.std.proofs.lemmas.List.{length-take-le}
 use Rattle.std.proofs.lemmas.List.Quantifiers.{position-Some}
 use Rattle.std.proofs.lemmas.Option.{same_Some, none-some, cond_some}
 use Rattle.small_form.specs.Line.{SmallLine, Act, Creates, Enters, Leaves, Destroys, ◌>>=◌, parts_at}
-use Rattle.small_form.specs.Line.{field_at, time_of, time_at_point, time_of_parts, time_of_whole}
+use Rattle.small_form.specs.Line.{field_at, small_time_of, time_at_point, time_of_parts, time_of_whole}
 use Rattle.small_form.specs.Line.{within_limit, is_word, is_digit, is_name, label_of, creation, entry}
-use Rattle.small_form.specs.Line.{leaving, destruction, line_of_form, line_of}
+use Rattle.small_form.specs.Line.{leaving, destruction, line_of_form, small_line_of}
 use Rattle.small_form.specs.Rules.{creates, enters}
 use Rattle.small_form.specs.SmallForm.{onto_line, whole_lines, each_of, said_in, after_head, small_lines}
 use Rattle.small_form.specs.SmallForm.{head}
@@ -151,13 +151,14 @@ time_ok word t (Some i) h =
     [ inl a ↦ within_ok _ t a.1 | inr a ↦ absurd (none-some t a.1) ]
 
 -- what a line that was read weighs, and that its time is within the limit
-line_weighs : (bytes : List ℕ) (l : SmallLine) → line_of bytes ≡ Some l → (weight l.act ≤ length bytes + 1)
+line_weighs : (bytes : List ℕ) (l : SmallLine) → small_line_of bytes ≡ Some l
+    → (weight l.act ≤ length bytes + 1)
     × (in_limit l ≡ true)
-unfolding line_of time_of
+unfolding small_line_of small_time_of
 line_weighs bytes l h =
     let form = bind_ok (field_at bytes) _ l h in
     let word = bind_ok (field_at form.0.1) _ l form.2 in
-    let time = bind_ok (time_of word.0.0) _ l word.2 in
+    let time = bind_ok (small_time_of word.0.0) _ l word.2 in
     let r = form_weighs form.0.0 time.0 word.0.1 l time.2 in
     let limit : time.0 ≤ 2 ^ 62 = time_ok word.0.0 time.0 _ time.1 in (
       omega (arith, r.0, parts_length 32 bytes form.0 form.1, parts_length 32 form.0.1 word.0 word.1),
@@ -195,14 +196,14 @@ whole_length (b ∷ bs) xs h =
           omega (arith, put_length b r.0 xs r.2, rest)
     ]
 
-each_weighs : (xs : List (List ℕ)) (ls : List SmallLine) → each_of line_of xs ≡ Some ls
+each_weighs : (xs : List (List ℕ)) (ls : List SmallLine) → each_of small_line_of xs ≡ Some ls
     → (total_weight ls ≤ total_length xs) × (list_all in_limit ls ≡ true)
 unfolding total_length total_weight each_of
 each_weighs [] ls h = subst (λ ks. (total_weight ks ≤ 0) × (list_all in_limit ks ≡ true)) (same_Some _ _ h)
     (omega arith, refl)
 each_weighs (x ∷ xs) ls h =
-    let l = bind_ok (line_of x) _ ls h in
-    let r = map_ok (λ ys. l.0 ∷ ys) (each_of line_of xs) ls l.2 in
+    let l = bind_ok (small_line_of x) _ ls h in
+    let r = map_ok (λ ys. l.0 ∷ ys) (each_of small_line_of xs) ls l.2 in
     let one = line_weighs x l.0 l.1 in
     let rest = each_weighs xs r.0 r.1 in
     subst (λ ks. (total_weight ks ≤ length x + 1 + total_length xs) × (list_all in_limit ks ≡ true)) r.2
@@ -231,7 +232,7 @@ pub text_weighs : (text : List ℕ) (ls : List SmallLine) → small_lines text �
 unfolding small_lines said_in after_head
 text_weighs text ls h =
     let rest = bind_ok (after_head text) said_in ls h in
-    let lines = bind_ok (whole_lines rest.0) (each_of line_of) ls rest.2 in
+    let lines = bind_ok (whole_lines rest.0) (each_of small_line_of) ls rest.2 in
     let short : length rest.0 ≤ length text = no_longer text rest.0 rest.1 in
     let r = each_weighs lines.0 ls lines.2 in
     (omega (arith, kinds_weigh ls, r.0, whole_length rest.0 lines.0 lines.1, short), r.1)

@@ -10,8 +10,8 @@ two_calls_lines =
     codes "2 0 p0 P 0 \"rank 0\"" ∷ codes "4 0 S p0 main" ∷ codes "4 0.1 S p0 f" ∷ codes "5 0.2 S p0"
     ∷ codes "4 0.3 S p0 f" ∷ codes "5 0.4 S p0" ∷ codes "5 0.5 S p0" ∷ codes "3 0.5 P p0" ∷ []
 
-unfoldable pub two_calls : List ℕ
-two_calls = head ++ text_of_lines two_calls_lines
+unfoldable pub small_two_calls : List ℕ
+small_two_calls = head ++ text_of_lines two_calls_lines
 
 abbrev pub two_calls_said : TraceText
 two_calls_said = record {

@@ -56,12 +56,12 @@ is_name [] = false
 is_name (b ∷ bs) = is_letter b && is_tail is_letter_or_digit 31 bs
 
 -- the number that decimal digits write
-unfoldable pub number : List ℕ → ℕ
-number digits = fold (λ n b. 10 * n + (b - 48)) 0 digits
+unfoldable pub small_number : List ℕ → ℕ
+small_number digits = fold (λ n b. 10 * n + (b - 48)) 0 digits
 
 -- the nanoseconds of seconds with digits behind a point
 unfoldable pub nanoseconds : List ℕ → List ℕ → ℕ
-nanoseconds whole fraction = number whole * 10 ^ 9 + number fraction * 10 ^ (9 - length fraction)
+nanoseconds whole fraction = small_number whole * 10 ^ 9 + small_number fraction * 10 ^ (9 - length fraction)
 
 -- the time, if it is within the limit
 abbrev pub within_limit : ℕ → Option ℕ
@@ -81,8 +81,8 @@ time_at_point word None = time_of_whole word
 time_at_point word (Some i) = time_of_parts (take i word) (drop (i + 1) word)
 
 -- the time that a word gives
-unfoldable pub time_of : List ℕ → Option ℕ
-time_of word = time_at_point word (position is_point word)
+unfoldable pub small_time_of : List ℕ → Option ℕ
+small_time_of word = time_at_point word (position is_point word)
 
 -- the bytes up to the first such byte, and those behind it; nothing where there is none
 unfoldable pub parts_at : ℕ → List ℕ → Option (List ℕ × List ℕ)
@@ -149,9 +149,9 @@ line_of_form form time bytes =
 
 -- What the bytes of a line say, without its newline. The forms are: 2 t p P 0 "n" creates the container p
 -- with the label n, 3 t P p destroys it, 4 t S p v enters the function v, 5 t S p leaves a call.
-unfoldable pub line_of : List ℕ → Option SmallLine
-line_of bytes = do
+unfoldable pub small_line_of : List ℕ → Option SmallLine
+small_line_of bytes = do
   form ← field_at bytes
   word ← field_at form.1
-  time ← time_of word.0
+  time ← small_time_of word.0
   line_of_form form.0 time word.1

@@ -42,12 +42,12 @@ leaves l = is_leaves l.act
 abbrev pub destroys : SmallLine → Bool
 destroys l = is_destroys l.act
 
-abbrev pub is_of : List ℕ → SmallLine → Bool
-is_of name l = bytes_eq l.name name
+abbrev pub is_of_container : List ℕ → SmallLine → Bool
+is_of_container name l = bytes_eq l.name name
 
 -- the lines of this container
 abbrev pub of_container : List ℕ → List SmallLine → List SmallLine
-of_container name lines = filter (is_of name) lines
+of_container name lines = filter (is_of_container name) lines
 
 -- the container is created and not destroyed, after these lines of it
 abbrev pub is_alive : List SmallLine → Bool

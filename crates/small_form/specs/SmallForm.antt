@@ -11,7 +11,7 @@ use Rattle.trace_base.specs.declared.stream.Event.{Event}
 use Rattle.trace_base.specs.declared.stream.Event.TheVariants.{Enter, Leave}
 use Rattle.trace_base.specs.declared.stream.TrackStream.{TrackStream}
 use Rattle.trace_base.specs.declared.text.TraceText.{TraceText}
-use Rattle.small_form.specs.Line.{SmallLine, Act, Creates, Enters, Leaves, Destroys, ◌>>=◌, line_of}
+use Rattle.small_form.specs.Line.{SmallLine, Act, Creates, Enters, Leaves, Destroys, ◌>>=◌, small_line_of}
 use Rattle.small_form.specs.Rules.{creates, enters, destroys, of_container, are_legal}
 
 -- the lines with which each small text begins: six events with their fields, the type of its containers and
@@ -61,7 +61,7 @@ each_of f (x ∷ xs) = f x >>= (λ y. option_map (λ ys. y ∷ ys) (each_of f xs
 
 -- what the lines of a text say
 unfoldable pub said_in : List ℕ → Option (List SmallLine)
-said_in bytes = whole_lines bytes >>= each_of line_of
+said_in bytes = whole_lines bytes >>= each_of small_line_of
 
 -- what the lines behind the head say
 unfoldable pub small_lines : List ℕ → Option (List SmallLine)
@@ -133,15 +133,15 @@ event_of_act functions time Leaves = Some (Leave time)
 event_of_act functions time Destroys = None
 
 -- the event of a call that a line tells, with the function's number
-abbrev pub event_of : List (List ℕ) → SmallLine → Option Event
-event_of functions l = event_of_act functions l.time l.act
+abbrev pub small_event_of : List (List ℕ) → SmallLine → Option Event
+small_event_of functions l = event_of_act functions l.time l.act
 
 -- the events of a container's calls
-abbrev pub stream_of : List SmallLine → List ℕ → TrackStream
-stream_of lines name = record {
+abbrev pub small_stream_of : List SmallLine → List ℕ → TrackStream
+small_stream_of lines name = record {
   start = start_of lines name;
   end = end_of lines name;
-  events = filter_map (event_of (functions lines)) (of_container name lines);
+  events = filter_map (small_event_of (functions lines)) (of_container name lines);
 }
 
 -- what legal lines say
@@ -155,17 +155,17 @@ names_of lines = record {
   functions = functions lines;
 }
 
-unfoldable pub text_of : List SmallLine → TraceText
-text_of lines = record {
+unfoldable pub small_text_of : List SmallLine → TraceText
+small_text_of lines = record {
   names = names_of lines;
-  tracks = map (stream_of lines) (track_names lines);
+  tracks = map (small_stream_of lines) (track_names lines);
   links = [];
 }
 
 -- what a text in the small form says; nothing of any other text
 unfoldable pub small_form : List ℕ → Option TraceText
-small_form text = small_lines text >>= (λ lines. if are_legal lines then Some (text_of lines) else None)
+small_form text = small_lines text >>= (λ lines. if are_legal lines then Some (small_text_of lines) else None)
 
 -- what a hall keeps of the trace beside its tracks: it has no messages
-abbrev pub info_of : TraceText → TraceInfo
-info_of t = record { names = t.names; messages = record { messages = []; unmatched = 0 } }
+abbrev pub small_info_of : TraceText → TraceInfo
+small_info_of t = record { names = t.names; messages = record { messages = []; unmatched = 0 } }

@@ -3,7 +3,7 @@ ghost use Rattle.std.specs.Prelude.{◌≡◌, ◌+◌, ◌≤◌, length, map, 
 ghost use Rattle.std.specs.List.{list_any};
 ghost use Rattle.std.specs.Str.{bytes_eq};
 ghost use Rattle.small_form.specs.SmallForm.{place, greatest_time, created_names, track_names, functions};
-ghost use Rattle.small_form.specs.SmallForm.{start_of, event_of};
+ghost use Rattle.small_form.specs.SmallForm.{start_of, small_event_of};
 ghost use Rattle.small_form.specs.View.{view, views};
 
 use crate::line::{Action, Line};
@@ -117,7 +117,7 @@ pub(crate) fn start_of_container(lines: &[Line<'_>], name: &[u8]) -> u64
 /// The event of a call that a line tells, with the function's number, counted from 1.
 pub(crate) fn event_of_line(line: &Line<'_>, functions: &[Name]) -> Option<Event>
     requires { length functions.now ≤ MAX_FUNCTIONS }
-    ensures { result ≡ event_of functions.now (view line.now) }
+    ensures { result ≡ small_event_of functions.now (view line.now) }
 {
     match line.action {
         Action::Enter(function) => {

@@ -3,7 +3,8 @@ ghost use Rattle.std.specs.Prelude.{◌≡◌, ◌==◌, ◌<◌, ◌≤◌, ◌
 ghost use Rattle.std.specs.Prelude.{IfSome};
 ghost use Rattle.std.specs.List.{list_all};
 ghost use Rattle.small_form.specs.Line.{is_digit, is_letter, is_letter_or_digit, is_label_byte, is_tail};
-ghost use Rattle.small_form.specs.Line.{is_word, is_name, number, time_of, time_of_whole, time_of_parts};
+ghost use Rattle.small_form.specs.Line.{is_word, is_name, small_number, small_time_of, time_of_whole};
+ghost use Rattle.small_form.specs.Line.{time_of_parts};
 ghost use Rattle.small_form.specs.Line.{within_limit, parts_at, field_at, label_of};
 
 use trace_base::MAX_TIME;
@@ -92,7 +93,7 @@ fn is_number(bytes: &[u8], most: usize) -> bool
 fn number_of(digits: &[u8]) -> u64
     requires digits { IsTrue (list_all is_digit digits.now) }
     requires few { length digits.now ≤ 10 }
-    ensures value { result ≡ number digits.now }
+    ensures value { result ≡ small_number digits.now }
     ensures bound { result < 10 ^ length digits.now }
 {
     let mut n = 0;
@@ -118,7 +119,7 @@ fn within(time: u64) -> Option<u64>
     if time <= MAX_TIME { Some(time) } else { None }
 }
 
-#[tactic(auto, unfolding(crate::specs::Line::time_of_whole, crate::specs::Line::nanoseconds, crate::specs::Line::number))]
+#[tactic(auto, unfolding(crate::specs::Line::time_of_whole, crate::specs::Line::nanoseconds, crate::specs::Line::small_number))]
 fn time_of_seconds(whole: &[u8]) -> Option<u64>
     ensures { result ≡ time_of_whole whole.now }
 {
@@ -141,9 +142,9 @@ fn time_of_fraction(whole: &[u8], fraction: &[u8]) -> Option<u64>
 }
 
 /// The time that a word gives, in nanoseconds.
-#[tactic(auto, unfolding(crate::specs::Line::time_of))]
+#[tactic(auto, unfolding(crate::specs::Line::small_time_of))]
 pub(crate) fn time_of_word(word: &[u8]) -> Option<u64>
-    ensures { result ≡ time_of word.now }
+    ensures { result ≡ small_time_of word.now }
 {
     match place_of_byte(word, b'.') {
         None => time_of_seconds(word),

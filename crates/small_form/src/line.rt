@@ -1,7 +1,7 @@
 ghost use Rattle.std.specs.Prelude.{◌≡◌, [], ◌∷◌, option_map};
 ghost use Rattle.std.specs.Str.{bytes_eq};
-ghost use Rattle.small_form.specs.Line.{creation, entry, leaving, destruction, line_of_form, line_of};
-ghost use Rattle.small_form.specs.Rules.{creates, enters, leaves, destroys, is_of};
+ghost use Rattle.small_form.specs.Line.{creation, entry, leaving, destruction, line_of_form, small_line_of};
+ghost use Rattle.small_form.specs.Rules.{creates, enters, leaves, destroys, is_of_container};
 ghost use Rattle.small_form.specs.View.{view};
 
 use crate::bytes::{field_of, is_container_name, is_function, quoted_label, time_of_word};
@@ -51,7 +51,7 @@ impl Line<'_> {
 
     /// Whether the line is one of the container with this name.
     pub(crate) fn is_of(&self, name: &[u8]) -> bool
-        ensures { result ≡ is_of name.now (view self.now) }
+        ensures { result ≡ is_of_container name.now (view self.now) }
     {
         self.name == name
     }
@@ -133,9 +133,9 @@ fn parse_form<'a>(form: &[u8], time: u64, bytes: &'a [u8]) -> Option<Line<'a>>
 }
 
 /// What the bytes of a line say, without its newline.
-#[tactic(auto, unfolding(crate::specs::Line::line_of))]
+#[tactic(auto, unfolding(crate::specs::Line::small_line_of))]
 pub(crate) fn parse_line(bytes: &[u8]) -> Option<Line<'_>>
-    ensures { option_map view result ≡ line_of bytes.now }
+    ensures { option_map view result ≡ small_line_of bytes.now }
 {
     let (form, rest) = field_of(bytes)?;
     let (word, rest) = field_of(rest)?;

@@ -1,6 +1,7 @@
 //! The trace that legal lines say.
 ghost use Rattle.std.specs.Prelude.{◌≡◌, ◌≤◌, [], ◌∷◌, length, map, filter_map, IfOk, codes};
-ghost use Rattle.small_form.specs.SmallForm.{containers, track_of, event_of, stream_of, names_of, text_of};
+ghost use Rattle.small_form.specs.SmallForm.{containers, track_of, small_event_of, small_stream_of, names_of};
+ghost use Rattle.small_form.specs.SmallForm.{small_text_of};
 ghost use Rattle.small_form.specs.SmallForm as small;
 ghost use Rattle.small_form.specs.Rules.{of_container};
 ghost use Rattle.small_form.specs.View.{views};
@@ -47,7 +48,7 @@ fn events_of(
     name: &[u8],
 ) -> Result<Vec<Event>, Memory>
     requires { length functions.now ≤ MAX_FUNCTIONS }
-    ensures { IfOk result (λ v. v.items ≡ filter_map (event_of functions.now)
+    ensures { IfOk result (λ v. v.items ≡ filter_map (small_event_of functions.now)
         (of_container name.now (views lines.now))) }
 {
     let mut events = Vec::new(alloc);
@@ -70,7 +71,8 @@ fn streams_of(
 ) -> Result<Vec<TrackStream>, Memory>
     requires few { length functions.now ≤ MAX_FUNCTIONS }
     requires same { functions.now ≡ small.functions (views lines.now) }
-    ensures { IfOk result (λ v. v.items ≡ map (stream_of (views lines.now)) (map (λ r. r.now) names.now)) }
+    ensures { IfOk result (λ v. v.items ≡ map (small_stream_of (views lines.now))
+        (map (λ r. r.now) names.now)) }
 {
     let mut streams = Vec::new(alloc);
     for name in names {
@@ -108,10 +110,10 @@ fn kinds_of(alloc: Global) -> Result<Vec<Name>, Memory>
 }
 
 /// What legal lines say.
-#[tactic(auto, unfolding(crate::specs::SmallForm::names_of, crate::specs::SmallForm::text_of))]
+#[tactic(auto, unfolding(crate::specs::SmallForm::names_of, crate::specs::SmallForm::small_text_of))]
 pub(crate) fn trace_of(alloc: Global, lines: &[Line<'_>]) -> Result<TraceText, Memory>
     requires { length lines.now ≤ MAX_SMALL_TEXT }
-    ensures { IfOk result (λ t. t ≡ text_of (views lines.now)) }
+    ensures { IfOk result (λ t. t ≡ small_text_of (views lines.now)) }
 {
     let functions = functions_of(alloc, lines)?;
     let names = track_names_of(alloc, lines)?;

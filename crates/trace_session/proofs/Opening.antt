@@ -18,7 +18,7 @@ use Rattle.hall_trait.specs.declared.pass.LoadPass.{LoadPass}
 use Rattle.session_proto.specs.declared.reply.No.TheVariants as no
 use Rattle.session_proto.specs.declared.reply.Reply.{Reply}
 use Rattle.session_proto.specs.declared.reply.Reply.TheVariants as reply
-use Rattle.small_form.specs.SmallForm.{small_form, info_of}
+use Rattle.small_form.specs.SmallForm.{small_form, small_info_of}
 use Rattle.request_reader.specs.Requests.{WholeRequest, Put}
 use Rattle.trace_session.specs.Load.{Publishes}
 use Rattle.trace_session.specs.Replies.{entry_at, reply_at, put_reply, opened_reply}
@@ -63,7 +63,7 @@ take-before history xs es k is last =
 -- the most traces were open
 pub Serves-full : (alone : Bool) (old new : Seat) (limits limits' : Option (List ℕ)) (text : List ℕ)
     (t : TraceText) (place : ℕ) → small_form text ≡ Some t → IsAtRest old
-    → Admits alone old new (info_of t) (Err (fault.Full place)) → RecordsNone limits limits'
+    → Admits alone old new (small_info_of t) (Err (fault.Full place)) → RecordsNone limits limits'
     → Serves alone old new limits limits' (Put text) (reply.No (no.Full place))
 Serves-full alone old new limits limits' text t place form rest m none =
     let at : entry_at new.seen place ≡ Some Asked = entry_at_place m.0.before new.seen Asked place m.0.seen
@@ -83,12 +83,13 @@ Serves-full alone old new limits limits' text t place form rest m none =
 -- the trace was opened and sealed
 pub Serves-opened : (alone : Bool) (old mid new : Seat) (limits limits' : Option (List ℕ)) (text : List ℕ)
     (t : TraceText) (pass : LoadPass) (place : ℕ) → small_form text ≡ Some t
-    → Admits alone old mid (info_of t) (Ok pass) → Publishes alone mid new pass.id t.tracks (Some place)
+    → Admits alone old mid (small_info_of t) (Ok pass) → Publishes alone mid new pass.id t.tracks (Some place)
     → RecordsNone limits limits' → Serves alone old new limits limits' (Put text)
     (reply.Put pass.id (length t.names.tracks) (length t.names.functions) 0 place)
 Serves-opened alone old mid new limits limits' text t pass place form m p none =
-    let opened = Grows-one alone old mid (Opened pass.id (info_of t)) pass.place m.0 in
-    let all = Grows-trans alone old mid new (pass.place ∷ []) (p.0 ++ place ∷ []) (Opened pass.id (info_of t)
+    let opened = Grows-one alone old mid (Opened pass.id (small_info_of t)) pass.place m.0 in
+    let all = Grows-trans alone old mid new (pass.place ∷ []) (p.0 ++ place ∷ [])
+    (Opened pass.id (small_info_of t)
     ∷ []) (published_from pass.id 0 t.tracks ++ Sealed pass.id ∷ []) opened p.1 in
     let last : last_place (pass.place ∷ p.0 ++ place ∷ []) ≡ place = last_place-push (pass.place ∷ p.0) place
     in
@@ -115,15 +116,16 @@ Serves-opened alone old mid new limits limits' text t pass place form m p none =
 
 -- the load was given up
 pub Serves-dropped : (alone : Bool) (old mid new : Seat) (limits limits' : Option (List ℕ)) (text : List ℕ)
-    (t : TraceText) (pass : LoadPass) → small_form text ≡ Some t → Admits alone old mid (info_of t) (Ok pass)
+    (t : TraceText) (pass : LoadPass) → small_form text ≡ Some t → Admits alone old mid (small_info_of t)
+    (Ok pass)
     → Publishes alone mid new pass.id t.tracks None → RecordsNone limits limits'
     → Serves alone old new limits limits' (Put text) (reply.No no.Memory)
 Serves-dropped alone old mid new limits limits' text t pass form m p none =
-    let opened = Grows-one alone old mid (Opened pass.id (info_of t)) pass.place m.0 in
+    let opened = Grows-one alone old mid (Opened pass.id (small_info_of t)) pass.place m.0 in
     record {
       block = pass.place ∷ p.0;
       entries = dropped_entries pass.id t p.1;
-      grows = Grows-trans alone old mid new (pass.place ∷ []) p.0 (Opened pass.id (info_of t) ∷ [])
+      grows = Grows-trans alone old mid new (pass.place ∷ []) p.0 (Opened pass.id (small_info_of t) ∷ [])
           (published_from pass.id 0 (take p.1 t.tracks) ++ Dropped pass.id ∷ []) opened p.2;
       answered = inr (inr (refl, inr (pass.id, p.1, t, form, refl)));
       rest = p.3;
@@ -133,7 +135,7 @@ Serves-dropped alone old mid new limits limits' text t pass form m p none =
 -- no place was left
 pub Serves-spent : (alone : Bool) (old new : Seat) (limits limits' : Option (List ℕ)) (text : List ℕ)
     (t : TraceText) (n : ℕ) → small_form text ≡ Some t → IsAtRest old
-    → Admits alone old new (info_of t) (Err (fault.Spent n)) → RecordsSpent limits limits' n
+    → Admits alone old new (small_info_of t) (Err (fault.Spent n)) → RecordsSpent limits limits' n
     → Serves alone old new limits limits' (Put text) (reply.No (no.Spent n))
 Serves-spent alone old new limits limits' text t n form rest m told =
     let whole : take (length old.seen) old.seen ≡ old.seen = take_all (length old.seen) old.seen (omega arith)
@@ -165,7 +167,7 @@ refusal (fault.Full place) = reply.No (no.Full place)
 -- the trace wasn't let in
 refused_by : (alone : Bool) (old new : Seat) (limits limits' : Option (List ℕ)) (text : List ℕ)
     (t : TraceText) (f : HallFault) → small_form text ≡ Some t → IsAtRest old
-    → Admits alone old new (info_of t) (Err f) → AdmitRecords limits limits' (Err f)
+    → Admits alone old new (small_info_of t) (Err f) → AdmitRecords limits limits' (Err f)
     → Serves alone old new limits limits' (Put text) (refusal f)
 refused_by alone old new limits limits' text t fault.Memory form rest m told =
     Serves-still alone old new limits limits' (Put text) (reply.No no.Memory) m rest
@@ -177,7 +179,8 @@ refused_by alone old new limits limits' text t (fault.Full place) form rest m to
 
 pub Serves-refused : (alone : Bool) (old new : Seat) (limits limits' : Option (List ℕ)) (text : List ℕ)
     (t : TraceText) (info : TraceInfo) (r : Result LoadPass HallFault) (f : HallFault)
-    → small_form text ≡ Some t → IsAtRest old → info ≡ info_of t → r ≡ Err f → Admits alone old new info r
+    → small_form text ≡ Some t → IsAtRest old → info ≡ small_info_of t → r ≡ Err f
+    → Admits alone old new info r
     → AdmitRecords limits limits' r → Serves alone old new limits limits' (Put text) (refusal f)
 Serves-refused alone old new limits limits' text t info r f form rest same is answer told =
     let by_result = subst (λ (x : Result LoadPass HallFault). Admits alone old new info x) is answer in
@@ -193,5 +196,5 @@ with_messages t messages = record {
 }
 
 pub info_with : (t : TraceText) (info : TraceInfo) (messages : List Message) → info ≡ with_messages t messages
-    → messages ≡ [] → info ≡ info_of t
+    → messages ≡ [] → info ≡ small_info_of t
 info_with t info messages is none = is ∙ ap (with_messages t) none

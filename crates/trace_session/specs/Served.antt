@@ -10,7 +10,7 @@ use Rattle.session_proto.specs.Reply.{reply_text}
 use Rattle.session_proto.specs.declared.reply.No.TheVariants as no
 use Rattle.session_proto.specs.declared.reply.Reply.{Reply}
 use Rattle.session_proto.specs.declared.reply.Reply.TheVariants as reply
-use Rattle.small_form.specs.SmallForm.{small_form, info_of}
+use Rattle.small_form.specs.SmallForm.{small_form, small_info_of}
 use Rattle.trace_session.specs.Replies.{entry_at, reply_at}
 use Rattle.request_reader.specs.Requests.{WholeRequest, Put, Flat, Quit, Unreadable}
 
@@ -29,11 +29,12 @@ published_from id track (s ∷ ss) = Published id track s ∷ published_from id 
 
 -- the entries of a trace that was opened and sealed
 abbrev pub load_entries : ℕ → TraceText → List Entry
-load_entries id t = Opened id (info_of t) ∷ published_from id 0 t.tracks ++ Sealed id ∷ []
+load_entries id t = Opened id (small_info_of t) ∷ published_from id 0 t.tracks ++ Sealed id ∷ []
 
 -- those of a load that was given up behind n tracks
 abbrev pub dropped_entries : ℕ → TraceText → ℕ → List Entry
-dropped_entries id t n = Opened id (info_of t) ∷ published_from id 0 (take n t.tracks) ++ Dropped id ∷ []
+dropped_entries id t n = Opened id (small_info_of t) ∷ published_from id 0 (take n t.tracks) ++ Dropped id
+    ∷ []
 
 -- the block has these entries at its places
 abbrev pub AreAt : List Entry → List ℕ → List Entry → Type 0

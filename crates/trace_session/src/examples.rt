@@ -8,7 +8,7 @@ ghost use Rattle.session_proto.specs.Reply.{reply_text};
 ghost use Rattle.session_proto.specs.declared.reply.No.TheVariants.{Full, Unknown};
 ghost use Rattle.session_proto.specs.declared.reply.Reply.TheVariants.{Put as PutReply, Flat as FlatReply};
 ghost use Rattle.session_proto.specs.declared.reply.Reply.TheVariants.{No as NoReply};
-ghost use Rattle.small_form.specs.Examples.{two_calls};
+ghost use Rattle.small_form.specs.Examples.{small_two_calls};
 ghost use Rattle.trace_session.specs.Replies.{flat_reply};
 ghost use Rattle.trace_session.specs.Examples.{first_input, first_history};
 ghost use Rattle.trace_session.specs.Served.{last_place, Served, IsServed};
@@ -26,10 +26,10 @@ pub fn pieces_of_two_calls()
 {}
 
 /// The first session's input is three requests.
-#[tactic(auto, unfolding(session_proto::specs::Request::number_of, session_proto::specs::Request::digits_of, session_proto::specs::Request::words_of, session_proto::specs::Request::request_of, request_reader::specs::Requests::first_request, request_reader::specs::Requests::requests_within, request_reader::specs::Requests::requests_of, small_form::specs::Examples::two_calls, small_form::specs::SmallForm::head, crate::specs::Examples::first_input))]
+#[tactic(auto, unfolding(session_proto::specs::Request::number_of, session_proto::specs::Request::digits_of, session_proto::specs::Request::words_of, session_proto::specs::Request::request_of, request_reader::specs::Requests::first_request, request_reader::specs::Requests::requests_within, request_reader::specs::Requests::requests_of, small_form::specs::Examples::small_two_calls, small_form::specs::SmallForm::head, crate::specs::Examples::first_input))]
 pub fn requests_of_first_input()
     ensures { requests_of first_input ≡ record {
-      all = Put two_calls ∷ Flat 1 0 500000000 ∷ Quit
+      all = Put small_two_calls ∷ Flat 1 0 500000000 ∷ Quit
           ∷ [];
       ending = AfterQuit;
     } }

@@ -2,7 +2,7 @@ ghost use Rattle.std.specs.Prelude.{◌≡◌, ◌≤◌, ℕ, List, [], ◌∷�
 ghost use Rattle.trace_base.specs.Info.{IsLegalInfo};
 ghost use Rattle.hall_trait.specs.Seat.{IsAtRest};
 ghost use Rattle.request_reader.specs.Requests.{Put};
-ghost use Rattle.small_form.specs.SmallForm.{small_form, info_of};
+ghost use Rattle.small_form.specs.SmallForm.{small_form, small_info_of};
 ghost use Rattle.trace_session.specs.Serving.{Serves};
 ghost use Rattle.hall_trait.specs.Pass.{pass_view, IsFresh};
 ghost use Rattle.trace_session.specs.Load.{AreTracksOf, FitAll, Publishes};
@@ -32,9 +32,9 @@ pub fn serve_put<R: Wait, H: Hall>(rt: &R, alloc: Global, hall: &mut H, text: &[
 // Opens a legal trace, publishes its tracks and seals it.
 fn open_trace<R: Wait, H: Hall>(rt: &R, alloc: Global, hall: &mut H, trace: TraceText) -> Reply
     requires rest { IsAtRest (H.seat hall.old) }
-    requires legal { IsLegalInfo (info_of trace) }
+    requires legal { IsLegalInfo (small_info_of trace) }
     requires lengths { length trace.tracks ≡ length trace.names.tracks }
-    requires fits { FitAll (info_of trace) trace.tracks }
+    requires fits { FitAll (small_info_of trace) trace.tracks }
     ensures { (text : List ℕ) → small_form text ≡ Some trace
         → Serves H.alone (H.seat hall.old) (H.seat hall.new) (H.limits hall.old) (H.limits hall.new)
         (Put text) result }

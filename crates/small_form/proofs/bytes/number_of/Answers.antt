@@ -1,10 +1,10 @@
 use Rattle.std.proofs.Common.{◌≡◌, ◌-◌, ◌≤◌, get_or, refl, arith}
-use Rattle.small_form.specs.Line.{number}
+use Rattle.small_form.specs.Line.{small_number}
 use Rattle.small_form.proofs.Numbers.{digit_at, number_more}
 use Rattle.small_form.proofs.bytes.number_of.Goals as goal
 
 pub loop-digit-init : goal.loop-digit-init
-unfolding number
+unfolding small_number
 loop-digit-init c = (refl, omega arith)
 
 pub loop-digit-preserved : goal.loop-digit-preserved

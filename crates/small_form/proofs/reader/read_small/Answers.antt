@@ -3,7 +3,7 @@ use Rattle.std.proofs.lemmas.List.{length-map}
 use Rattle.trace_base.specs.Info.{IsLegalInfo, Fits}
 use Rattle.trace_base.specs.declared.stream.TrackStream.{TrackStream}
 use Rattle.small_form.specs.Rules.{are_legal}
-use Rattle.small_form.specs.SmallForm.{info_of}
+use Rattle.small_form.specs.SmallForm.{small_info_of}
 use Rattle.small_form.specs.View.{view, views}
 use Rattle.small_form.proofs.LegalTrace.{Good, good_lines, legal_info, same_lengths, streams_fit}
 use Rattle.small_form.proofs.reader.read_small.Goals as goal
@@ -21,7 +21,7 @@ good c =
     )))
 
 pub returns-clause-legal : goal.returns-clause-legal
-returns-clause-legal c = subst (λ t. IsLegalInfo (info_of t)) (sym c.in_ok-trace_of.ensures)
+returns-clause-legal c = subst (λ t. IsLegalInfo (small_info_of t)) (sym c.in_ok-trace_of.ensures)
     (legal_info (views c.deref-2.result.now) (good c))
 
 pub returns-clause-lengths : goal.returns-clause-lengths
@@ -30,4 +30,5 @@ returns-clause-lengths c = subst (λ t. length t.tracks ≡ length t.names.track
 
 pub returns-clause-fits : goal.returns-clause-fits
 returns-clause-fits c = subst (λ t. (i : ℕ) (s : TrackStream) → slice_get t.tracks i ≡ Some s
-    → Fits s (info_of t) i) (sym c.in_ok-trace_of.ensures) (streams_fit (views c.deref-2.result.now) (good c))
+    → Fits s (small_info_of t) i) (sym c.in_ok-trace_of.ensures)
+    (streams_fit (views c.deref-2.result.now) (good c))

@@ -5,7 +5,7 @@ use Rattle.hall_trait.specs.Answers.{Admits, AdmitRecords}
 use Rattle.hall_trait.specs.declared.answers.HallFault.{HallFault}
 use Rattle.hall_trait.specs.declared.answers.HallFault.TheVariants as fault
 use Rattle.hall_trait.specs.declared.pass.LoadPass.{LoadPass}
-use Rattle.small_form.specs.SmallForm.{info_of}
+use Rattle.small_form.specs.SmallForm.{small_info_of}
 use Rattle.trace_session.specs.Load.{Publishes}
 use Rattle.trace_session.proofs.Opening.{put_memory, Serves-opened, Serves-dropped, Serves-refused, info_with}
 use Rattle.trace_session.proofs.load.open_trace.Goals as goal
@@ -23,7 +23,7 @@ publish_all-requires-clause-tracks g c =
     let is_in = subst (λ (i : TraceInfo). Admits g.H.Hall.alone old mid i (Ok c.in-Ok-admit.pass))
     (info_with c.args.trace (arc_value c.in-Ok.info) c.new.result c.in-Ok.ensures.ok c.new.ensures) let_in
     in
-    (info_of c.args.trace, is_in.2, sym c.requires.lengths, c.requires.fits)
+    (small_info_of c.args.trace, is_in.2, sym c.requires.lengths, c.requires.fits)
 
 pub returns-in-Some : goal.returns-in-Some
 returns-in-Some g c = λ text form.
