@@ -1,4 +1,3 @@
-pub mod Legal
 pub mod Lists
 pub mod PathRows
 pub mod Times

@@ -140,6 +140,15 @@ fn unbuilt(rt: HostRuntime) {
     assert!(rt; is_unbuilt(&read_small(rt.alloc(), b"ab")));
 }
 
+#[test]
+fn texts_of_faults(rt: HostRuntime) -> Result<(), Fail> {
+    let unbuilt = format!(in rt.alloc(); "{}", SmallFault::Unbuilt)?;
+    assert_eq!(rt; unbuilt.as_str(), "the text isn't in the small form");
+    let memory = format!(in rt.alloc(); "{}", SmallFault::Memory)?;
+    assert_eq!(rt; memory.as_str(), "out of memory");
+    Ok(())
+}
+
 /// A text in which this many calls are open at once.
 fn nested(alloc: Global, calls: u32) -> Result<Vec<u8>, AllocError> {
     let mut lines = Vec::from_slice(alloc, b"2 0 p P 0 \"n\"\n")?;

@@ -2,6 +2,7 @@ pub mod Flat
 pub mod FoldExamples
 pub mod InOrder
 pub mod Info
+pub mod LegalExamples
 pub mod Matrix
 pub mod MemSink
 pub mod MemSource

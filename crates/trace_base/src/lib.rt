@@ -6,6 +6,7 @@ mod asks;
 mod examples;
 mod faults;
 mod fold_examples;
+mod legal_examples;
 mod limits;
 mod matrix;
 mod mem_sink;

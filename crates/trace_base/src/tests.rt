@@ -1,5 +1,5 @@
-//! What no clause says: that calls find memory, and which calls of a source or a sink fail.
-use crate::{Faults, MemSink, MemSource, Name, ReadAnswer, Seq, Sink, Source, WriteAnswer};
+//! What no clause says: that calls find memory, and the text of the one error.
+use crate::{Faults, MemSink, MemSource, Memory, Name, ReadAnswer, Seq, Sink, Source, WriteAnswer};
 use std::test::Fail;
 
 #[test]
@@ -40,5 +40,14 @@ fn a_sink_takes_a_step_and_fails_at_the_chosen_call(rt: HostRuntime) -> Result<(
     assert_eq!(rt; sink.faults(), 1);
     assert_eq!(rt; sink.write(b"c"), WriteAnswer::Took(1));
     assert_eq!(rt; sink.written(), b"abc".as_slice());
+    Ok(())
+}
+
+#[test]
+fn the_text_of_no_memory(rt: HostRuntime) -> Result<(), Fail> {
+    assert_eq!(rt;
+        format!(in rt.alloc(); "{}", Memory)?.as_str(),
+        "out of memory"
+    );
     Ok(())
 }

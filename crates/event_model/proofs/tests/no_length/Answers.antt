@@ -1,7 +1,7 @@
 use Rattle.std.proofs.Common.{List, sym, subst}
 use Rattle.trace_base.specs.Stream.{IsLegal}
 use Rattle.trace_base.specs.declared.stream.Event.{Event}
-use Rattle.event_model.proofs.Legal.{no_length-legal}
+use Rattle.trace_base.proofs.LegalTest.{no_length-legal}
 use Rattle.event_model.proofs.tests.no_length.Goals as goal
 
 pub returns : goal.returns

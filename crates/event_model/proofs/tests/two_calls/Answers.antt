@@ -1,7 +1,7 @@
 use Rattle.std.proofs.Common.{List, sym, subst}
 use Rattle.trace_base.specs.Stream.{IsLegal}
 use Rattle.trace_base.specs.declared.stream.Event.{Event}
-use Rattle.event_model.proofs.Legal.{two_calls-legal}
+use Rattle.trace_base.proofs.LegalTest.{two_calls-legal}
 use Rattle.event_model.proofs.tests.two_calls.Goals as goal
 
 pub returns : goal.returns

@@ -1,14 +1,15 @@
 -- A test that shows a written-out stream to be legal, by computing.
-use Rattle.std.proofs.Common.{◌≡◌, ◌≢◌, ℕ, ◌+◌, ◌^◌, ◌<◌, ◌≤◌, zero, suc, List, [], ◌∷◌, length, take, get_or}
+use Rattle.std.proofs.Common.{◌≡◌, ◌≢◌, ℕ, ◌+◌, ◌<◌, ◌≤◌, zero, suc, List, [], ◌∷◌, length, take, get_or, map}
 use Rattle.std.proofs.Common.{filter, slice_get, Bool, true, ◌&&◌, nat_le, Some, refl, ap, sym, subst, inl}
-use Rattle.std.proofs.Common.{inr, arith}
+use Rattle.std.proofs.Common.{inr, arith, length-append}
 use Rattle.std.proofs.lemmas.Bool.{and_parts, leb-true, cases_eq, cases_lt, true≢false}
-use Rattle.std.proofs.lemmas.List.{take_all, get_or_default}
+use Rattle.std.proofs.lemmas.List.{take_all, get_or_default, length-map}
 use Rattle.std.proofs.lemmas.List.Sorted.{IsNonDecreasingBy-from_all_adjacent}
 use Rattle.std.proofs.lemmas.Option.{get_or_from_slice_get, slice_get_within}
 use Rattle.trace_base.specs.Examples.{two_calls, recursion, no_length}
-use Rattle.event_model.proofs.Times.{length-moments}
-use Rattle.trace_base.specs.Stream.{is_enter, stack_after, moments, IsLegal}
+use Rattle.trace_base.specs.Stream.{time_of, is_enter, stack_after, moments, IsLegal}
+use Rattle.trace_base.specs.declared.limits.TheConstants.{MAX_TIME, MAX_OPEN_CALLS, MAX_STATE_EVENTS}
+use Rattle.trace_base.specs.declared.limits.TheConstants.{MAX_FUNCTIONS}
 use Rattle.trace_base.specs.declared.stream.Event.{Event}
 use Rattle.trace_base.specs.declared.stream.Event.TheVariants.{Enter, Leave}
 use Rattle.trace_base.specs.declared.stream.TrackStream.{TrackStream}
@@ -28,25 +29,27 @@ passes_below-at p (suc n) i e h =
 
 -- whether the event may come with this call stack
 abbrev pub may_come : Event → List ℕ → Bool
-may_come (Enter f t) stack = nat_le 1 f && nat_le f 65536
+may_come (Enter f t) stack = nat_le 1 f && nat_le f MAX_FUNCTIONS
 may_come (Leave t) stack = nat_le 1 (length stack)
 
 -- the parts of the test, one for each part of what a legal stream is
 pub record PassesTests (s : TrackStream) : Type 0 where
-  pub in_time : nat_le s.end (2 ^ 62) ≡ true
+  pub in_time : nat_le s.end MAX_TIME ≡ true
   pub in_order : passes_below (λ i. nat_le (get_or (moments s) i 0) (get_or (moments s) (i + 1) 0))
       (length s.events + 1) ≡ true
   pub each : passes_below (λ i. may_come (get_or s.events i (Leave 0)) (stack_after (take i s.events)))
       (length s.events) ≡ true
   pub all_closed : stack_after s.events ≡ []
-  pub depth : passes_below (λ i. nat_le (length (stack_after (take i s.events))) 256) (length s.events + 1) ≡
+  pub depth : passes_below (λ i. nat_le (length (stack_after (take i s.events))) MAX_OPEN_CALLS)
+      (length s.events + 1) ≡
       true
-  pub calls : nat_le (length (filter is_enter s.events)) 4194304 ≡ true
+  pub calls : nat_le (length (filter is_enter s.events)) MAX_STATE_EVENTS ≡ true
 
 rises : (s : TrackStream) → PassesTests s → (k d : ℕ) → k + 1 < length (moments s)
     → get_or (moments s) k d ≤ get_or (moments s) (k + 1) d
 rises s tests k d h =
-    let low : k < length s.events + 1 = omega (arith, length-moments s) in
+    let low : k < length s.events + 1 =
+    omega (arith, length-append (map time_of s.events) (s.end ∷ []), length-map s.events time_of) in
     let at_zero : get_or (moments s) k 0 ≤ get_or (moments s) (k + 1) 0 =
     leb-true _ _ (passes_below-at (λ i. nat_le (get_or (moments s) i 0) (get_or (moments s) (i + 1) 0))
     (length s.events + 1) k tests.in_order low) in
@@ -64,10 +67,12 @@ not_empty : (stack : List ℕ) → nat_le 1 (length stack) ≡ true → stack �
 not_empty [] h = λ e. true≢false (sym h)
 not_empty (x ∷ xs) h = λ e. cc
 
-depth_at : (s : TrackStream) → PassesTests s → (i : ℕ) → length (stack_after (take i s.events)) ≤ 256
+depth_at : (s : TrackStream) → PassesTests s → (i : ℕ) → length (stack_after (take i s.events)) ≤
+    MAX_OPEN_CALLS
 depth_at s tests i =
     elim (cases_lt i (length s.events + 1)) [
-      | inl below ↦ leb-true _ _ (passes_below-at (λ j. nat_le (length (stack_after (take j s.events))) 256)
+      | inl below ↦ leb-true _ _ (passes_below-at
+          (λ j. nat_le (length (stack_after (take j s.events))) MAX_OPEN_CALLS)
           (length s.events + 1) i tests.depth below)
       | inr past ↦ (let whole : take i s.events ≡ s.events = take_all i s.events (omega arith)
           in omega (
@@ -87,8 +92,8 @@ IsLegal-from s tests = record {
   calls = leb-true _ _ tests.calls;
   functions =
       λ i f t h. (
-        leb-true _ _ (and_parts (nat_le 1 f) (nat_le f 65536) (fine_at s tests i (Enter f t) h)).0,
-        leb-true _ _ (and_parts (nat_le 1 f) (nat_le f 65536) (fine_at s tests i (Enter f t) h)).1,
+        leb-true _ _ (and_parts (nat_le 1 f) (nat_le f MAX_FUNCTIONS) (fine_at s tests i (Enter f t) h)).0,
+        leb-true _ _ (and_parts (nat_le 1 f) (nat_le f MAX_FUNCTIONS) (fine_at s tests i (Enter f t) h)).1,
       );
 }
 
