@@ -7,7 +7,7 @@ use Rattle.std.proofs.lemmas.List.Elements.{All-cons, All-nil}
 use Rattle.trace_base.proofs.LegalTest.{IsLegal-from}
 use Rattle.trace_base.specs.Info.{IsLegalInfo, IsLegalContainer, NamesExisting, JoinsExisting, Fits}
 use Rattle.trace_base.specs.LegalExamples.{quiet_until, one_call, calls_in_a_row, one_process, with_message}
-use Rattle.trace_base.specs.LegalExamples.{lasting, message_between, messages_to_root, track_of_kind}
+use Rattle.trace_base.specs.LegalExamples.{lasting, one_message, messages_to_root, track_of_kind}
 use Rattle.trace_base.specs.Stream.{IsLegal, is_enter, stack_after}
 use Rattle.trace_base.specs.declared.limits.TheConstants.{MAX_TIME, MAX_FUNCTIONS}
 use Rattle.trace_base.specs.declared.names.Container.{Container}
@@ -46,7 +46,7 @@ calls_counted (suc n) = ap suc (calls_counted n)
 
 pub messages_counted : (n : ℕ) → length (messages_to_root n) ≡ n
 unfolding messages_to_root
-messages_counted n = length-replicate n (message_between 1 0)
+messages_counted n = length-replicate n (one_message 1 0)
 
 only_one : (x t : Track) (i j : ℕ) → slice_get (x ∷ []) i ≡ Some t → slice_get (x ∷ []) j ≡ Some t → i ≡ j
 only_one x t zero zero a b = refl
@@ -65,7 +65,7 @@ one_process-legal = record {
   existing = All-cons (NamesExisting one_process) (track_of_kind 1 0) [] (omega arith, omega arith)
       (All-nil (NamesExisting one_process));
   distinct = λ i j t. only_one (track_of_kind 1 0) t i j;
-  joined = All-cons (JoinsExisting one_process) (message_between 1 0) [] (omega arith, omega arith)
+  joined = All-cons (JoinsExisting one_process) (one_message 1 0) [] (omega arith, omega arith)
       (All-nil (JoinsExisting one_process));
 }
 

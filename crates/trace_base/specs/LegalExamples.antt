@@ -42,12 +42,12 @@ calls_in_a_row (suc n) = Enter 1 3 ∷ Leave 3 ∷ calls_in_a_row n
 abbrev pub lasting : ℕ → ℕ → Container
 lasting start end = record { name = codes "x"; start = start; end = end }
 
-abbrev pub message_between : ℕ → ℕ → Message
-message_between from to = record { from = from; to = to; send = 5; receive = 7; size = 100 }
+abbrev pub one_message : ℕ → ℕ → Message
+one_message from to = record { from = from; to = to; send = 5; receive = 7; size = 100 }
 
 -- n messages from the process to the root
 unfoldable pub messages_to_root : ℕ → List Message
-messages_to_root n = replicate n (message_between 1 0)
+messages_to_root n = replicate n (one_message 1 0)
 
 abbrev pub track_of_kind : ℕ → ℕ → Track
 track_of_kind container kind = record { container = container; kind = kind }
@@ -67,7 +67,7 @@ one_process = record {
 abbrev pub with_message : TraceNames → TraceInfo
 with_message names = record {
   names = names;
-  messages = record { messages = message_between 1 0 ∷ []; unmatched = 0 };
+  messages = record { messages = one_message 1 0 ∷ []; unmatched = 0 };
 }
 
 -- one process and these messages

@@ -4,7 +4,7 @@ ghost use Rattle.std.specs.Prelude.{[], ◌∷◌, ◌+◌, ◌/◌, replicate, 
 ghost use Rattle.trace_base.specs.Examples.{two_calls, recursion, no_length};
 ghost use Rattle.trace_base.specs.Info.{IsLegalInfo, Fits};
 ghost use Rattle.trace_base.specs.LegalExamples.{ten_with, quiet_until, one_call, left_twice, left_open};
-ghost use Rattle.trace_base.specs.LegalExamples.{nested_calls, calls_in_a_row, lasting, message_between};
+ghost use Rattle.trace_base.specs.LegalExamples.{nested_calls, calls_in_a_row, lasting, one_message};
 ghost use Rattle.trace_base.specs.LegalExamples.{messages_to_root};
 ghost use Rattle.trace_base.specs.LegalExamples.{track_of_kind, one_process, with_message, with_messages};
 ghost use Rattle.trace_base.specs.LegalExamples.{with_containers, with_kinds, with_tracks, with_functions};
@@ -78,8 +78,8 @@ pub fn broken_infos()
     // Two tracks are the same.
     ensures twice { ¬ IsLegalInfo (with_tracks (track_of_kind 1 0 ∷ track_of_kind 1 0 ∷ [])) }
     // A message's sender isn't there, or its receiver.
-    ensures sender { ¬ IsLegalInfo (with_messages (message_between 2 0 ∷ [])) }
-    ensures receiver { ¬ IsLegalInfo (with_messages (message_between 1 2 ∷ [])) }
+    ensures sender { ¬ IsLegalInfo (with_messages (one_message 2 0 ∷ [])) }
+    ensures receiver { ¬ IsLegalInfo (with_messages (one_message 1 2 ∷ [])) }
 {}
 
 /// Streams that don't fit the track of a legal info, for one reason each.

@@ -1,5 +1,5 @@
 use Rattle.std.proofs.Common.{◌≡◌, ℕ, ◌+◌, ◌≤◌, ◌<◌, refl, arith}
-use Rattle.trace_base.specs.LegalExamples.{lasting, message_between, track_of_kind}
+use Rattle.trace_base.specs.LegalExamples.{lasting, one_message, track_of_kind}
 use Rattle.trace_base.specs.declared.limits.TheConstants.{MAX_TIME}
 use Rattle.trace_base.proofs.legal_examples.broken_infos.Goals as goal
 
@@ -24,8 +24,8 @@ returns-clause-twice c legal = let h : ◌≡◌ {A = ℕ} 0 1 = legal.distinct 
 
 pub returns-clause-sender : goal.returns-clause-sender
 returns-clause-sender c legal =
-    let h : 2 < 2 = (legal.joined 0 (message_between 0 0) (omega arith)).0 in omega arith
+    let h : 2 < 2 = (legal.joined 0 (one_message 0 0) (omega arith)).0 in omega arith
 
 pub returns-clause-receiver : goal.returns-clause-receiver
 returns-clause-receiver c legal =
-    let h : 2 < 2 = (legal.joined 0 (message_between 0 0) (omega arith)).1 in omega arith
+    let h : 2 < 2 = (legal.joined 0 (one_message 0 0) (omega arith)).1 in omega arith
