@@ -1,0 +1,2 @@
+pub mod HeldDigits
+pub mod WordsOfDigits
