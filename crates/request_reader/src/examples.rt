@@ -5,7 +5,7 @@ ghost use Rattle.request_reader.specs.Requests.{Inside};
 
 /// Bytes, cut into requests: a text is no line, bytes behind QUIT belong to none, and a line may be cut
 /// short.
-#[tactic(auto, unfolding(session_proto::specs::Request::number_of, session_proto::specs::Request::digits_of, session_proto::specs::Request::words_of, session_proto::specs::Request::request_of, crate::specs::Requests::first_request, crate::specs::Requests::requests_within, crate::specs::Requests::requests_of))]
+#[tactic(auto, unfolding(session_proto::specs::Request::number_of, session_proto::specs::Request::words_of, session_proto::specs::Request::request_of, crate::specs::Requests::first_request, crate::specs::Requests::requests_within, crate::specs::Requests::requests_of))]
 pub fn requests_of_bytes()
     ensures whole { requests_of (codes "PUT 5\nQUIT\nFLAT 1 * 0 9\nLIST\nQUIT\nmore")
         ≡ record { all = Put (codes "QUIT\n") ∷ Flat 1 0 9 ∷ Unreadable ∷ Quit ∷ []; ending = AfterQuit } }

@@ -1,18 +1,11 @@
 -- What a request line says. The line stands without its newline.
 use Rattle.std.specs.Prelude.{ℕ, ◌^◌, Bool, not, ◌&&◌, ◌||◌, ◌==◌, nat_lt, nat_le, if◌then◌else◌, List, []}
 use Rattle.std.specs.Prelude.{◌∷◌, length, slice_index, Option, None, Some, codes}
-use Rattle.std.specs.Char.{is_ascii_digit}
-use Rattle.std.specs.List.{list_all}
 use Rattle.std.specs.Str.{bytes_eq}
-use Rattle.std.specs.Str.Parse.{digits_value}
+use Rattle.decimal_digits.specs.Decimal.{decimal_of}
 use Rattle.session_proto.specs.declared.request.Request.{Request}
 use Rattle.session_proto.specs.declared.request.Request.TheVariants.{Put, Flat, Quit}
 use Rattle.session_proto.specs.declared.request.Sel.TheVariants.{All}
-
--- the number that decimal digits write, where it is below 2^64
-unfoldable pub digits_of : List ℕ → Option ℕ
-digits_of word = if list_all is_ascii_digit word && nat_lt (digits_value 10 word) (2 ^ 64)
-    then Some (digits_value 10 word) else None
 
 -- whether the word isn't empty and has no leading zero
 abbrev pub has_own_form : List ℕ → Bool
@@ -20,7 +13,7 @@ has_own_form word = nat_lt 0 (length word) && (length word == 1 || not (slice_in
 
 -- the number that a word of a request writes: decimal digits with no sign and no zero in front, below 2^64
 unfoldable pub number_of : List ℕ → Option ℕ
-number_of word = if has_own_form word then digits_of word else None
+number_of word = if has_own_form word then decimal_of word else None
 
 -- the byte is put before the first word
 abbrev pub onto_first : ℕ → List (List ℕ) → List (List ℕ)

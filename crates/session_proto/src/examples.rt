@@ -5,7 +5,7 @@ ghost use Rattle.session_proto.specs.declared.request.Request.TheVariants.{Put, 
 ghost use Rattle.session_proto.specs.declared.request.Sel.TheVariants.{All};
 
 /// Lines that are requests, and lines that miss it by one thing.
-#[tactic(auto, unfolding(crate::specs::Request::number_of, crate::specs::Request::digits_of, crate::specs::Request::words_of, crate::specs::Request::request_of))]
+#[tactic(auto, unfolding(crate::specs::Request::number_of, crate::specs::Request::words_of, crate::specs::Request::request_of))]
 pub fn request_lines()
     ensures put { request_of (codes "PUT 697") ≡ Some (Put 697) }
     ensures long_put { request_of (codes "PUT 65537") ≡ None }

@@ -26,7 +26,7 @@ pub fn pieces_of_two_calls()
 {}
 
 /// The first session's input is three requests.
-#[tactic(auto, unfolding(session_proto::specs::Request::number_of, session_proto::specs::Request::digits_of, session_proto::specs::Request::words_of, session_proto::specs::Request::request_of, request_reader::specs::Requests::first_request, request_reader::specs::Requests::requests_within, request_reader::specs::Requests::requests_of, small_form::specs::Examples::small_two_calls, small_form::specs::SmallForm::head, crate::specs::Examples::first_input))]
+#[tactic(auto, unfolding(session_proto::specs::Request::number_of, session_proto::specs::Request::words_of, session_proto::specs::Request::request_of, request_reader::specs::Requests::first_request, request_reader::specs::Requests::requests_within, request_reader::specs::Requests::requests_of, small_form::specs::Examples::small_two_calls, small_form::specs::SmallForm::head, crate::specs::Examples::first_input))]
 pub fn requests_of_first_input()
     ensures { requests_of first_input ≡ record {
       all = Put small_two_calls ∷ Flat 1 0 500000000 ∷ Quit
