@@ -1,10 +1,12 @@
 -- The parts that are read of a text are those that it is written from.
-use Rattle.std.proofs.Common.{◌≡◌, ℕ, ◌+◌, ◌*◌, ◌/◌, ◌^◌, ◌<◌, ◌≤◌, ◌&&◌, ◌||◌, ◌==◌, ◌⊎◌, inl, inr, List, []}
+use Rattle.std.proofs.Common.{◌≡◌, ℕ, ◌+◌, ◌*◌, ◌/◌, ◌<◌, ◌≤◌, ◌&&◌, ◌||◌, ◌==◌, ◌⊎◌, inl, inr, List, []}
 use Rattle.std.proofs.Common.{◌∷◌, ◌++◌, length, take, drop, Bool, true, false, cond, ltb, leb, Option, Some}
 use Rattle.std.proofs.Common.{None, Result, Ok, Err, IfOk, sym, ◌∙◌, ap, refl, arith, suc, subst}
 use Rattle.std.specs.List.{prefix_len, list_all, take_while}
 use Rattle.std.specs.Option.{option_map, unwrap_or}
 use Rattle.std.specs.Char.{is_ascii_digit}
+use Rattle.trace_base.specs.declared.limits.TheConstants.{MAX_TIME}
+use Rattle.std.specs.Str.Parse.{digits_value}
 use Rattle.std.proofs.lemmas.List.{take_at, drop_at, take-append-drop}
 use Rattle.std.proofs.lemmas.List.Folds.{length-prefix_len}
 use Rattle.std.proofs.lemmas.Bool.{true≢false, and_parts, eqb-true, ltb-true, lt-ltb, leb-true, le-leb}
@@ -14,12 +16,12 @@ use Rattle.std.proofs.lemmas.Nat.{div-add-mod'}
 use Rattle.paje_lex.specs.declared.date_fault.DateFault.{DateFault}
 use Rattle.paje_lex.specs.declared.date_fault.DateFault.TheVariants.{Shape, Negative, Big}
 use Rattle.paje_lex.specs.DateGrammar.{Date, Exponent, date_text, fraction_text, exponent_text, IsSign}
-use Rattle.paje_lex.specs.DateGrammar.{AreDigits, digits_of, IsExponent, IfExponent, IsDate, number, is_minus}
+use Rattle.paje_lex.specs.DateGrammar.{AreDigits, date_digits, IsExponent, IfExponent, IsDate, is_minus}
 use Rattle.paje_lex.specs.DateGrammar.{meaning, numerator, denominator}
 use Rattle.paje_lex.specs.DateReading.{is_sign, sign_len, fraction_of, fraction_at, are_exponent_digits}
 use Rattle.paje_lex.specs.DateReading.{is_exponent_letter, exponent_of, behind_digits, unsigned_of, body_of}
-use Rattle.paje_lex.specs.DateReading.{digits_at, date_parts, parts_of, time_of, date_of}
-use Rattle.paje_lex.proofs.Scaling.{ten_pow_pos}
+use Rattle.paje_lex.specs.DateReading.{digits_at, date_parts, parts_of, meaning_or_shape, date_of}
+use Rattle.decimal_digits.proofs.HeldDigits.{ten_pow_pos}
 
 -- ---- what is read is a date, and is written as the text
 
@@ -94,16 +96,16 @@ exponent_is : (b : ℕ) (bs : List ℕ) → is_exponent_letter b ≡ true
 exponent_is b bs letter digits =
     let ds = drop (sign_len bs) bs in
     let all = and_parts (list_all is_ascii_digit ds) (ltb 0 (length ds)
-    && (leb (length ds) 4 && leb (number ds) 30)) digits in
-    let some = and_parts (ltb 0 (length ds)) (leb (length ds) 4 && leb (number ds) 30) all.1 in
-    let four = and_parts (leb (length ds) 4) (leb (number ds) 30) some.1 in
+    && (leb (length ds) 4 && leb (digits_value 10 ds) 30)) digits in
+    let some = and_parts (ltb 0 (length ds)) (leb (length ds) 4 && leb (digits_value 10 ds) 30) all.1 in
+    let four = and_parts (leb (length ds) 4) (leb (digits_value 10 ds) 30) some.1 in
     record {
       letter = letter_is b letter;
       sign = sign_is bs;
       digits = all_digits ds all.0;
       some = ltb-true 0 (length ds) some.0;
       four = leb-true (length ds) 4 four.0;
-      small = leb-true (number ds) 30 four.1;
+      small = leb-true (digits_value 10 ds) 30 four.1;
     }
 
 exponent_first : (b : ℕ) (bs : List ℕ) (e : Option Exponent) → (x : Bool) → is_exponent_letter b ≡ x
@@ -247,13 +249,13 @@ all_true : (bytes : List ℕ) → AreDigits bytes → list_all is_ascii_digit by
 all_true [] are = refl
 all_true (b ∷ bs) are = rw are.0 (all_true bs are.1)
 
-digits_ok : (ds : List ℕ) → AreDigits ds → 0 < length ds → length ds ≤ 4 → number ds ≤ 30
+digits_ok : (ds : List ℕ) → AreDigits ds → 0 < length ds → length ds ≤ 4 → digits_value 10 ds ≤ 30
     → are_exponent_digits ds ≡ true
 digits_ok ds are some four small = rw (
   all_true ds are,
   lt-ltb 0 (length ds) some,
   le-leb (length ds) 4 four,
-  le-leb (number ds) 30 small,
+  le-leb (digits_value 10 ds) 30 small,
 ) refl
 
 exponent_back : (e : Option Exponent) → IfExponent e → exponent_of (exponent_text e) ≡ Some e
@@ -307,11 +309,11 @@ rest_read d is =
     ap (λ f. drop (length (fraction_text f)) (drop (prefix_len is_ascii_digit body) body)) fraction
     ∙ (ap (drop (length (fraction_text d.fraction))) after ∙ drop_at (fraction_text d.fraction)
     (exponent_text d.exponent) (length (fraction_text d.fraction)) refl) in
-    let all : digits_at body ≡ digits_of d = ap (λ w. w ++ unwrap_or (fraction_at body) []) whole ∙ ap
+    let all : digits_at body ≡ date_digits d = ap (λ w. w ++ unwrap_or (fraction_at body) []) whole ∙ ap
     (λ f. d.whole ++ unwrap_or f []) fraction in
     assembled (length (digits_at body) == 0) (exponent_of (behind_digits body)) (unsigned_of d.sign body)
     d.exponent
-    (some_digits (length (digits_at body)) (length (digits_of d)) (ap length all) is.some)
+    (some_digits (length (digits_at body)) (length (date_digits d)) (ap length all) is.some)
     (ap exponent_of behind ∙ exponent_back d.exponent is.exponent)
     ∙ (ap (λ w. Some (record {
       sign = d.sign;
@@ -339,11 +341,11 @@ parts_again d is =
 -- ---- the answers
 
 pub date_only : (text : List ℕ) (d : Date) → IsDate d → text ≡ date_text d → date_of text ≡ meaning d
-date_only text d is e = ap date_of e ∙ ap time_of (parts_again d is)
+date_only text d is e = ap date_of e ∙ ap meaning_or_shape (parts_again d is)
 
 found_by : (text : List ℕ) (o : Option Date) → parts_of text ≡ o → (date_of text ≡ Err Shape)
     ⊎ ((d : Date) × IsDate d × (text ≡ date_text d))
-found_by text None e = inl (ap time_of e)
+found_by text None e = inl (ap meaning_or_shape e)
 found_by text (Some d) e = let read = parts_read text d e in inr (d, read.0, read.1)
 
 pub date_found : (text : List ℕ) → (date_of text ≡ Err Shape) ⊎ ((d : Date) × IsDate d × (text ≡ date_text d))
@@ -355,8 +357,8 @@ meaning_no_shape false true x e = cc
 meaning_no_shape false false x e = cc
 
 pub no_shape : (d : Date) → Err Shape ≡ meaning d → ⊥
-no_shape d e = meaning_no_shape (is_minus d.sign && ltb 0 (number (digits_of d)))
-    (ltb (2 ^ 62 * denominator d) (numerator d)) (numerator d / denominator d) e
+no_shape d e = meaning_no_shape (is_minus d.sign && ltb 0 (digits_value 10 (date_digits d)))
+    (ltb (MAX_TIME * denominator d) (numerator d)) (numerator d / denominator d) e
 
 meaning_value : (a b : Bool) (x ns : ℕ) → Ok ns ≡ cond a (Err Negative) (cond b (Err Big) (Ok x)) → ns ≡ x
 meaning_value true b x ns e = cc
@@ -373,8 +375,8 @@ pub value_of : (d : Date) (r : Result ℕ DateFault) → r ≡ meaning d
     → IfOk r (λ ns. (ns * denominator d ≤ numerator d) × (numerator d < (ns + 1) * denominator d))
 value_of d (Err f) e = tt
 value_of d (Ok ns) e = floor_of (numerator d) (denominator d) ns (ten_pow_pos _)
-    (meaning_value (is_minus d.sign && ltb 0 (number (digits_of d)))
-    (ltb (2 ^ 62 * denominator d) (numerator d)) (numerator d / denominator d) ns e)
+    (meaning_value (is_minus d.sign && ltb 0 (digits_value 10 (date_digits d)))
+    (ltb (MAX_TIME * denominator d) (numerator d)) (numerator d / denominator d) ns e)
 
 pub all_values : (text : List ℕ) (r : Result ℕ DateFault) → r ≡ date_of text
     → IfOk r (λ ns. (d : Date) → IsDate d → text ≡ date_text d → (ns * denominator d ≤ numerator d)

@@ -1,82 +1,53 @@
 -- How the parts of a date are cut from its text.
-use Rattle.std.proofs.Common.{◌≡◌, ℕ, ◌+◌, ◌-◌, ◌*◌, ◌<◌, ◌≤◌, ◌⊎◌, ◌&&◌, ◌==◌, ◌^◌, Result, Err, inl, inr}
+use Rattle.std.proofs.Common.{◌≡◌, ℕ, ◌+◌, ◌-◌, ◌*◌, ◌<◌, ◌⊎◌, ◌&&◌, ◌==◌, ◌^◌, Result, Err, inl, inr}
 use Rattle.std.proofs.Common.{List, [], ◌∷◌, length, take, drop, Option, Some, None, cond, ltb, Bool, true}
-use Rattle.std.proofs.Common.{false, refl, sym, ◌∙◌, ap, arith, suc, get_or, length-drop}
+use Rattle.std.proofs.Common.{false, refl, ◌∙◌, ap, arith, get_or, length-drop, subst}
 use Rattle.std.proofs.lemmas.List.{take_all}
-use Rattle.std.specs.List.{prefix_len, list_all}
 use Rattle.std.specs.Option.{option_map}
-use Rattle.std.specs.Char.{is_ascii_digit}
+use Rattle.std.specs.Str.Parse.{digits_value}
 use Rattle.std.proofs.lemmas.Bool.Decides.{nat_tests}
 use Rattle.std.proofs.lemmas.Bool.{le-ltb, lt-ltb, true≢false}
+use Rattle.decimal_digits.specs.Held.{Holds}
+use Rattle.paje_lex.specs.declared.dates.Mantissa.{Mantissa}
 use Rattle.paje_lex.specs.declared.date_fault.DateFault.{DateFault}
 use Rattle.paje_lex.specs.declared.date_fault.DateFault.TheVariants.{Shape, Negative}
-use Rattle.paje_lex.specs.DateGrammar.{Date, Exponent, number, is_minus, tens_of, tens_up, tens_down}
+use Rattle.paje_lex.specs.DateGrammar.{Date, Exponent, is_minus, tens_of, tens_up, tens_down}
 use Rattle.paje_lex.specs.DateGrammar.{within_limit}
 use Rattle.paje_lex.specs.DateReading.{are_exponent_digits, sign_len, exponent_behind, exponent_of}
 use Rattle.paje_lex.specs.DateReading.{is_exponent_letter, behind_digits, body_of, digits_at, places_at}
-use Rattle.paje_lex.specs.DateReading.{unsigned_of, parts_of, date_of, time_of}
-
-all_step : (p : ℕ → Bool) (x : ℕ) (xs : List ℕ) → (prefix_len p xs ≡ length xs → list_all p xs ≡ true)
-    → (b : Bool) → p x ≡ b → cond b (1 + prefix_len p xs) 0 ≡ suc (length xs) → p x && list_all p xs ≡ true
-all_step p x xs rest true t e = rw t (rest (omega arith))
-all_step p x xs rest false t e = absurd (omega arith)
-
-pub all_by_prefix : (p : ℕ → Bool) (xs : List ℕ) → prefix_len p xs ≡ length xs → list_all p xs ≡ true
-all_by_prefix p [] e = refl
-all_by_prefix p (x ∷ xs) e = all_step p x xs (all_by_prefix p xs) (p x) refl e
-
-some_step : (p : ℕ → Bool) (x : ℕ) (xs : List ℕ) → (prefix_len p xs < length xs → list_all p xs ≡ false)
-    → (b : Bool) → p x ≡ b → cond b (1 + prefix_len p xs) 0 < suc (length xs) → p x && list_all p xs ≡ false
-some_step p x xs rest true t e = rw t (rest (omega arith))
-some_step p x xs rest false t e = rw t refl
-
-pub not_all_by_prefix : (p : ℕ → Bool) (xs : List ℕ) → prefix_len p xs < length xs → list_all p xs ≡ false
-not_all_by_prefix p [] e = absurd (omega arith)
-not_all_by_prefix p (x ∷ xs) e = some_step p x xs (not_all_by_prefix p xs) (p x) refl e
-
--- what is no exponent's digits
-pub no_exponent : (bs : List ℕ) → (length bs ≡ 0)
-    ⊎ ((4 < length bs) ⊎ ((prefix_len is_ascii_digit bs < length bs) ⊎ (30 < number bs)))
-    → are_exponent_digits bs ≡ false
-no_exponent bs (inl e) = grind (arith, nat_tests, e)
-no_exponent bs (inr (inl e)) = grind (arith, nat_tests, e)
-no_exponent bs (inr (inr (inl e))) = rw (not_all_by_prefix is_ascii_digit bs e) refl
-no_exponent bs (inr (inr (inr e))) = grind (arith, nat_tests, e)
-
-pub an_exponent : (bs : List ℕ) → 0 < length bs → length bs ≤ 4 → prefix_len is_ascii_digit bs ≡ length bs
-    → number bs ≤ 30 → are_exponent_digits bs ≡ true
-an_exponent bs some four all small = rw (all_by_prefix is_ascii_digit bs all) (grind (arith, nat_tests))
+use Rattle.paje_lex.specs.DateReading.{IsRead, unsigned_of, parts_of, date_of, meaning_or_shape}
 
 -- ---- the exponent's sign, digits and letter
+
+-- the number of the digits of an exponent
+abbrev pub exponent_number : List ℕ → Option ℕ
+exponent_number bs = cond (are_exponent_digits bs) (Some (digits_value 10 bs)) None
 
 signed_cases : (b : Bool) (sign digits : List ℕ) (n size : ℕ) → Some size ≡ cond b (Some n) None → (b ≡ true)
     × (n ≡ size)
 signed_cases true sign digits n size e = (refl, cc)
 signed_cases false sign digits n size e = cc
 
-pub signed_some : (bs : List ℕ) (size : ℕ) → Some size ≡ cond (are_exponent_digits (drop (sign_len bs) bs))
-    (Some (number (drop (sign_len bs) bs))) None
+pub signed_some : (bs : List ℕ) (size : ℕ) → Some size ≡ exponent_number (drop (sign_len bs) bs)
     → option_map (λ e. tens_of (Some e)) (exponent_behind 101 bs) ≡ Some
     (cond (is_minus (take (sign_len bs) bs)) 0 size, cond (is_minus (take (sign_len bs) bs)) size 0)
 signed_some bs size e =
     let both = signed_cases (are_exponent_digits (drop (sign_len bs) bs)) [] []
-    (number (drop (sign_len bs) bs)) size e in
+    (digits_value 10 (drop (sign_len bs) bs)) size e in
     rw both.0
     (ap (λ n. Some (
       cond (is_minus (take (sign_len bs) bs)) 0 n,
-      cond (is_minus (take (sign_len bs) bs)) n
-          0,
+      cond (is_minus (take (sign_len bs) bs)) n 0,
     )) both.1)
 
 none_cases : (b : Bool) (n : ℕ) → None ≡ cond b (Some n) None → b ≡ false
 none_cases true n e = cc
 none_cases false n e = refl
 
-pub signed_none : (bs : List ℕ) → None ≡ cond (are_exponent_digits (drop (sign_len bs) bs))
-    (Some (number (drop (sign_len bs) bs))) None → option_map (λ e. tens_of (Some e)) (exponent_behind 101 bs)
-    ≡ None
+pub signed_none : (bs : List ℕ) → None ≡ exponent_number (drop (sign_len bs) bs)
+    → option_map (λ e. tens_of (Some e)) (exponent_behind 101 bs) ≡ None
 signed_none bs e = rw (none_cases (are_exponent_digits (drop (sign_len bs) bs))
-    (number (drop (sign_len bs) bs)) e) refl
+    (digits_value 10 (drop (sign_len bs) bs)) e) refl
 
 pub exponent_empty : (bs : List ℕ) → length bs ≡ 0 → option_map tens_of (exponent_of bs) ≡ Some (0, 0)
 unfolding exponent_of
@@ -102,27 +73,26 @@ unfolding exponent_of
 exponent_letter [] some e = absurd (omega arith)
 exponent_letter (b ∷ bs) some e = rw e (behind_letter (are_exponent_digits (drop (sign_len bs) bs)) _ _ refl)
 
-pub no_size : (bs : List ℕ) → are_exponent_digits bs ≡ false → None ≡ cond (are_exponent_digits bs)
-    (Some (number bs)) None
-no_size bs e = rw e refl
-
-pub chosen_size : (bs : List ℕ) (size : ℕ) → are_exponent_digits bs ≡ true → number bs ≡ size
-    → Some size ≡ cond (are_exponent_digits bs) (Some (number bs)) None
-chosen_size bs size e same = rw e (ap Some (sym same))
-
 -- a slice from n on, as a call sees it
 pub slice_behind : (n k : ℕ) (xs : List ℕ) → n ≡ k → take (length xs - n) (drop n xs) ≡ drop k xs
 slice_behind n k xs e = take_all (length xs - n) (drop n xs) (simp length-drop (omega arith)) ∙ ap
     (λ i. drop i xs) e
 
--- what the digits of an exponent give
-abbrev pub size_of : List ℕ → Option ℕ
-size_of bs = cond (are_exponent_digits bs) (Some (number bs)) None
+-- what was read of a text without its sign, told of the text
+pub told_of_body : (text body : List ℕ) (m : Mantissa) → body ≡ body_of text → Holds m.digits (digits_at body)
+    → m.count ≡ length (digits_at body) → m.places ≡ places_at body → m.rest.now ≡ behind_digits body
+    → IsRead text m
+told_of_body text body m e digits count places rest = record {
+  digits = let P : List ℕ → Type 0 = λ x. Holds m.digits (digits_at x) in subst P e digits;
+  count = count ∙ ap (λ x. length (digits_at x)) e;
+  places = places ∙ ap places_at e;
+  rest = rest ∙ ap behind_digits e;
+}
 
 -- ---- the whole date
 
 no_exponent_parts : (b : Bool) (x : Option (Option Exponent)) (f : Option Exponent → Date)
-    → None ≡ option_map tens_of x → Err Shape ≡ time_of (cond b None (option_map f x))
+    → None ≡ option_map tens_of x → Err Shape ≡ meaning_or_shape (cond b None (option_map f x))
 no_exponent_parts true x f e = refl
 no_exponent_parts false None f e = refl
 no_exponent_parts false (Some y) f e = cc
@@ -140,8 +110,8 @@ date_without_digits text e = rw e refl
 -- what a date with these digits and this exponent means
 abbrev pub meaning_at : List ℕ → ℕ → ℕ → Result ℕ DateFault
 meaning_at text up down = cond (is_minus (take (sign_len text) text)
-    && ltb 0 (number (digits_at (body_of text)))) (Err Negative)
-    (within_limit (number (digits_at (body_of text)) * 10 ^ (9 + up))
+    && ltb 0 (digits_value 10 (digits_at (body_of text)))) (Err Negative)
+    (within_limit (digits_value 10 (digits_at (body_of text)) * 10 ^ (9 + up))
     (10 ^ (places_at (body_of text) + down)))
 
 abbrev pair_in : Option (ℕ × ℕ) → ℕ × ℕ
@@ -150,7 +120,7 @@ pair_in (Some p) = p
 
 some_parts : (text : List ℕ) (b : Bool) (x : Option (Option Exponent)) (up down : ℕ) → b ≡ false
     → Some (up, down) ≡ option_map tens_of x
-    → meaning_at text up down ≡ time_of (cond b None
+    → meaning_at text up down ≡ meaning_or_shape (cond b None
     (option_map (unsigned_of (take (sign_len text) text) (body_of text)) x))
 some_parts text true x up down e tens = absurd (true≢false e)
 some_parts text false None up down e tens = cc
@@ -167,16 +137,16 @@ date_with text up down e some = some_parts text (length (digits_at (body_of text
     (exponent_of (behind_digits (body_of text))) up down (grind (arith, nat_tests)) e
 
 pub negative_date : (text : List ℕ) (up down : ℕ) → is_minus (take (sign_len text) text) ≡ true
-    → (number (digits_at (body_of text)) ≡ 0 → ⊥) → meaning_at text up down ≡ Err Negative
-negative_date text up down minus some = rw (minus, lt-ltb 0 (number (digits_at (body_of text))) (omega arith))
-    refl
+    → (digits_value 10 (digits_at (body_of text)) ≡ 0 → ⊥) → meaning_at text up down ≡ Err Negative
+negative_date text up down minus some =
+    rw (minus, lt-ltb 0 (digits_value 10 (digits_at (body_of text))) (omega arith)) refl
 
 pub plain_date : (text : List ℕ) (up down : ℕ) → (is_minus (take (sign_len text) text) ≡ false)
-    ⊎ (number (digits_at (body_of text)) ≡ 0)
-    → meaning_at text up down ≡ within_limit (number (digits_at (body_of text)) * 10 ^ (9 + up))
+    ⊎ (digits_value 10 (digits_at (body_of text)) ≡ 0)
+    → meaning_at text up down ≡ within_limit (digits_value 10 (digits_at (body_of text)) * 10 ^ (9 + up))
     (10 ^ (places_at (body_of text) + down))
 plain_date text up down (inl plus) = rw plus refl
-plain_date text up down (inr zero') = rw (le-ltb 0 (number (digits_at (body_of text))) (omega arith))
+plain_date text up down (inr zero') = rw (le-ltb 0 (digits_value 10 (digits_at (body_of text))) (omega arith))
     (unsigned (is_minus (take (sign_len text) text)) _)
   where
     unsigned : (b : Bool) (r : Result ℕ DateFault) → cond (b && false) (Err Negative) r ≡ r

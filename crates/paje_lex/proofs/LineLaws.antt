@@ -14,7 +14,7 @@ use Rattle.paje_lex.specs.declared.state.State.TheVariants.{Between, Plain, Quot
 use Rattle.paje_lex.specs.LineKinds.{is_blank, tokens_start}
 use Rattle.paje_lex.specs.LineReading.{scan, joined, lexed}
 use Rattle.paje_lex.specs.LineGrammar.{Answer, token, UnlessMemory, Piece, blank, quoted, plain, piece_text}
-use Rattle.paje_lex.specs.LineGrammar.{pieces_text, NoQuotes, NoBlanks, IsPlain, IsPiece, MayFollow}
+use Rattle.paje_lex.specs.LineGrammar.{pieces_text, NoQuotes, NoBlanks, IsPlain, IsPiece, MayStandBefore}
 use Rattle.paje_lex.specs.LineGrammar.{ArePieces, tokens_from, IsCut, IsOpen, body_of_line, Lexes}
 use Rattle.paje_lex.specs.LineGrammar.{LexesUnlessMemory}
 use Rattle.paje_lex.proofs.LineLemmas.{lexed_text, lexed_not_text}
@@ -81,8 +81,8 @@ Ready (quoted word ∷ ps) rest = Ready ps rest
 Ready (plain word ∷ []) rest = EndsPlain rest
 Ready (plain word ∷ (p ∷ ps)) rest = Ready (p ∷ ps) rest
 
-plain_ready : (word : List ℕ) (ps : List Piece) (rest : List ℕ) → MayFollow (plain word) ps → ArePieces ps
-    → Ready (plain word ∷ ps) rest → EndsPlain (pieces_text ps ++ rest)
+plain_ready : (word : List ℕ) (ps : List Piece) (rest : List ℕ) → MayStandBefore (plain word) ps
+    → ArePieces ps → Ready (plain word ∷ ps) rest → EndsPlain (pieces_text ps ++ rest)
 plain_ready word [] rest follows are ready = ready
 plain_ready word (blank b ∷ ps) rest follows are ready = are.0
 plain_ready word (quoted more ∷ ps) rest follows are ready = absurd follows
@@ -158,7 +158,7 @@ ready_open (quoted word ∷ ps) rest are = ready_open ps rest are.2
 ready_open (plain word ∷ []) rest are = absurd are.1
 ready_open (plain word ∷ (p ∷ ps)) rest are = ready_open (p ∷ ps) rest are.2
 
-follow_front : (p : Piece) (ps more : List Piece) → MayFollow p (ps ++ more) → MayFollow p ps
+follow_front : (p : Piece) (ps more : List Piece) → MayStandBefore p (ps ++ more) → MayStandBefore p ps
 follow_front (blank b) ps more follows = tt
 follow_front (quoted word) ps more follows = tt
 follow_front (plain word) [] more follows = tt
@@ -219,7 +219,7 @@ split p [] = record { front = []; behind = []; text = refl; fails = tt; passes =
 split p (b ∷ bs) = split_more p b bs (split p bs) (p b) refl
 
 -- a piece before what is cut
-before_cut : (p : Piece) (bytes : List ℕ) → IsPiece p → ((ps : List Piece) → MayFollow p ps) → Cut bytes
+before_cut : (p : Piece) (bytes : List ℕ) → IsPiece p → ((ps : List Piece) → MayStandBefore p ps) → Cut bytes
     → Cut (piece_text p ++ bytes)
 before_cut p bytes is follows (inl (ps, cut)) =
     inl (

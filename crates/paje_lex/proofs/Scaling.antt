@@ -1,24 +1,16 @@
 -- The number of digits, of which the first are kept, times and divided by powers of ten.
-use Rattle.std.proofs.Common.{◌≡◌, ℕ, ◌+◌, ◌-◌, ◌*◌, ◌/◌, ◌^◌, ◌<◌, ◌≤◌, ◌⊎◌, inl, inr, List, [], ◌∷◌, ◌++◌}
-use Rattle.std.proofs.Common.{Result, Ok, Err, IfOk, IfErr, cond, ltb, Bool, true, false, IsTrue, not, eqb}
+use Rattle.std.proofs.Common.{◌≡◌, ℕ, ◌+◌, ◌-◌, ◌*◌, ◌/◌, ◌^◌, ◌<◌, ◌≤◌, ◌⊎◌, inl, inr}
+use Rattle.std.proofs.Common.{Result, Ok, Err, IfOk, IfErr, Bool, true, false, IsTrue}
 use Rattle.std.proofs.Common.{◌↔◌, refl, sym, ◌∙◌, ap, arith, zero, suc}
 use Rattle.std.proofs.lemmas.Nat.{pow-add, div-mul-add, div-add-mod'}
-use Rattle.std.proofs.Math.Nat.{one-le-pow, mul-le-mul_right, mul-le-mul_left, lt-div-mul-add}
+use Rattle.std.proofs.Math.Nat.{mul-le-mul_right, mul-le-mul_left, lt-div-mul-add}
 use Rattle.std.proofs.Math.Nat.{pow-le-pow_right}
-use Rattle.std.proofs.lemmas.List.Sums.{fold-append}
-use Rattle.std.proofs.lemmas.Bool.{le-ltb, lt-ltb, ltb-true, true≢false}
-use Rattle.std.proofs.lemmas.Bool.Decides.{nat_tests}
+use Rattle.std.proofs.lemmas.Bool.{le-ltb, lt-ltb, true≢false}
 use Rattle.paje_lex.specs.declared.date_fault.DateFault.{DateFault}
 use Rattle.paje_lex.specs.declared.date_fault.DateFault.TheVariants.{Big}
-use Rattle.paje_lex.specs.DateGrammar.{number, within_limit}
-
--- one digit more
-pub number-push : (digits : List ℕ) (digit : ℕ) → number (digits ++ digit ∷ []) ≡ 10 * number digits
-    + (digit - 48)
-number-push digits digit = fold-append (λ n d. 10 * n + (d - 48)) 0 digits (digit ∷ [])
-
-pub ten_pow_pos : (k : ℕ) → 0 < 10 ^ k
-ten_pow_pos k = omega (arith, one-le-pow k 10 (omega arith))
+use Rattle.trace_base.specs.declared.limits.TheConstants.{MAX_TIME}
+use Rattle.decimal_digits.proofs.HeldDigits.{ten_pow_pos}
+use Rattle.paje_lex.specs.DateGrammar.{within_limit}
 
 -- a quotient is the number whose multiples of the divisor are on both sides
 pub quotient : (a b q : ℕ) → q * b ≤ a → a < (q + 1) * b → a / b ≡ q
@@ -27,16 +19,16 @@ quotient a b q low high =
     let small : a - q * b < b = omega arith in
     ap (λ x. x / b) e ∙ div-mul-add q b (a - q * b) small
 
-pub within : (above below q : ℕ) → q * below ≤ above → above < (q + 1) * below → above ≤ 2 ^ 62 * below
+pub within : (above below q : ℕ) → q * below ≤ above → above < (q + 1) * below → above ≤ MAX_TIME * below
     → within_limit above below ≡ Ok q
 within above below q low high fits =
-    rw (le-ltb (2 ^ 62 * below) above fits) (ap Ok (quotient above below q low high))
+    rw (le-ltb (MAX_TIME * below) above fits) (ap Ok (quotient above below q low high))
 
--- a power of ten of at least 19 is above each head
-pub head_below_pow : (head places : ℕ) → head < 10 ^ 19 → 19 ≤ places → head / 10 ^ places ≡ 0
+-- a power of ten of at least 20 is above each head
+pub head_below_pow : (head places : ℕ) → head < 2 ^ 64 → 20 ≤ places → head / 10 ^ places ≡ 0
 head_below_pow head places below many =
     quotient head (10 ^ places) 0 (omega arith)
-    (omega (arith, pow-le-pow_right {n = 10} (omega arith) {i = 19} {j = places} many))
+    (omega (arith, pow-le-pow_right {n = 10} (omega arith) {i = 20} {j = places} many))
 
 pub raised_above : (head places : ℕ) → 0 < head → 20 ≤ places → 2 ^ 64 ≤ head * 10 ^ places
 raised_above head places some many =
@@ -47,46 +39,8 @@ raised_above head places some many =
           {n = head} (10 ^ places) (omega arith),
     )
 
--- one digit more where the head has room
-pub push_head : (n head more low digit : ℕ) → n ≡ head * 10 ^ more + low → low < 10 ^ more
-    → (0 < more → 10 ^ 18 ≤ head) → head < 10 ^ 18 → (more ≡ 0) × (low ≡ 0)
-    × (10 * n + digit ≡ (10 * head + digit) * 10 ^ more + 0)
-push_head n head zero low digit e below full room = (refl, omega arith, omega arith)
-push_head n head (suc more) low digit e below full room = absurd (omega (arith, full (omega arith)))
-
--- one digit more behind the head
-pub push_low : (n head more low digit : ℕ) → n ≡ head * 10 ^ more + low → 10 * n
-    + digit ≡ head * 10 ^ (more + 1) + (10 * low + digit)
-push_low n head more low digit e = rw (pow-add 10 more 1) (omega arith)
-
-pub low_push : (more low digit : ℕ) → low < 10 ^ more → digit < 10 → 10 * low + digit < 10 ^ (more + 1)
-low_push more low digit below small = rw (pow-add 10 more 1) (omega arith)
-
--- the number is 0 where its head is
-pub zero_head : (n head more low : ℕ) → n ≡ head * 10 ^ more + low → low < 10 ^ more
-    → (0 < more → 10 ^ 18 ≤ head) → head ≡ 0 → n ≡ 0
-zero_head n head zero low e below full z = omega arith
-zero_head n head (suc more) low e below full z = absurd (omega (arith, full (omega arith)))
-
-pub head_zero : (n head more low : ℕ) → n ≡ head * 10 ^ more + low → n ≡ 0 → head ≡ 0
-head_zero n zero more low e z = refl
-head_zero n (suc head) more low e z = absurd
-    (omega (arith, ten_pow_pos more, mul-le-mul_right {m = 1} {n = suc head} (10 ^ more) (omega arith)))
-
--- whether something that isn't 0 is behind the head: it was, or the new digit isn't 0
-pub tail_kept : (was now : Bool) (low digit : ℕ) → (IsTrue was ↔ (0 < low)) → was ≡ true → now ≡ was
-    → IsTrue now ↔ (0 < 10 * low + digit)
-tail_kept was now low digit h w e =
-    let some : 0 < low = h.0 w in
-    (λ _. omega arith, λ _. e ∙ w)
-
-pub tail_digit : (was now : Bool) (low digit : ℕ) → (IsTrue was ↔ (0 < low)) → was ≡ false
-    → now ≡ not (eqb digit 0) → IsTrue now ↔ (0 < 10 * low + digit)
-tail_digit was now zero digit h w e = grind (arith, nat_tests, e)
-tail_digit was now (suc low) digit h w e = absurd (true≢false (sym (h.1 (omega arith)) ∙ w))
-
 -- the digits behind the head, and some of its own, are dropped
-pub lowered_by : (n head low p q u : ℕ) → n ≡ head * q + low → low < q → head < 10 ^ 19 → 10 ≤ p → 0 < u
+pub lowered_by : (n head low p q u : ℕ) → n ≡ head * q + low → low < q → head < 2 ^ 64 → 10 ≤ p → 0 < u
     → within_limit (n * u) (p * (q * u)) ≡ Ok (head / p)
 lowered_by n head low p q u e below small many some =
     let t : ℕ = head / p in
@@ -96,7 +50,7 @@ lowered_by n head low p q u e below small many some =
     let m1 = mul-le-mul_right {m = t * p} {n = head} (q * u) under in
     let m2 = mul-le-mul_right {m = n + 1} {n = (head + 1) * q} u less in
     let m3 = mul-le-mul_right {m = head + 1} {n = (t + 1) * p} (q * u) over in
-    let m4 = mul-le-mul_right {m = head + 1} {n = 2 ^ 62 * p} (q * u) (omega arith) in
+    let m4 = mul-le-mul_right {m = head + 1} {n = MAX_TIME * p} (q * u) (omega arith) in
     within (n * u) (p * (q * u)) t (regrouped n head low p q u t e m1)
     (regrouped_over n head p q u t some m2 m3) (regrouped_fits n head p q u m2 m4)
   where
@@ -109,11 +63,11 @@ lowered_by n head low p q u e below small many some =
     regrouped_over n head p q u t some a b = omega arith
 
     regrouped_fits : (n head p q u : ℕ) → (n + 1) * u ≤ (head + 1) * q * u
-        → (head + 1) * (q * u) ≤ 2 ^ 62 * p * (q * u) → n * u ≤ 2 ^ 62 * (p * (q * u))
+        → (head + 1) * (q * u) ≤ MAX_TIME * p * (q * u) → n * u ≤ MAX_TIME * (p * (q * u))
     regrouped_fits n head p q u a b = omega arith
 
 pub lowered_limit : (n head more low up down : ℕ) → n ≡ head * 10 ^ more + low → low < 10 ^ more
-    → head < 10 ^ 19 → more + up < down → within_limit (n * 10 ^ up) (10 ^ down) ≡ Ok
+    → head < 2 ^ 64 → more + up < down → within_limit (n * 10 ^ up) (10 ^ down) ≡ Ok
     (head / 10 ^ (down - (more + up)))
 lowered_limit n head more low up down e below small far =
     let places : ℕ = down - (more + up) in
@@ -126,7 +80,7 @@ lowered_limit n head more low up down e below small far =
 
 -- the head with zeros behind it is the time
 pub raised_ok : (n head low q u s d : ℕ) → n ≡ head * q + low → low < q → q * u ≡ s * d → 0 < u → (s ≡ 1)
-    ⊎ (low ≡ 0) → (head * s < 2 ^ 62) ⊎ ((head * s ≡ 2 ^ 62) × (low ≡ 0))
+    ⊎ (low ≡ 0) → (head * s < MAX_TIME) ⊎ ((head * s ≡ MAX_TIME) × (low ≡ 0))
     → within_limit (n * u) d ≡ Ok (head * s)
 raised_ok n head low q u s d e below turned some exact limit =
     let parts : n * u ≡ head * s * d + low * u = split n head low q u s d e turned in
@@ -150,35 +104,35 @@ raised_ok n head low q u s d e below turned some exact limit =
         absurd (omega arith)
     behind low q u s (suc d) below turned some (inr none) = rw none (omega arith)
 
-    fits : (n u low d h : ℕ) → n * u ≡ h * d + low * u → low * u < d → (h < 2 ^ 62)
-        ⊎ ((h ≡ 2 ^ 62) × (low ≡ 0)) → n * u ≤ 2 ^ 62 * d
+    fits : (n u low d h : ℕ) → n * u ≡ h * d + low * u → low * u < d → (h < MAX_TIME)
+        ⊎ ((h ≡ MAX_TIME) × (low ≡ 0)) → n * u ≤ MAX_TIME * d
     fits n u low d h parts rest (inl under) =
-        let m = mul-le-mul_right {m = h + 1} {n = 2 ^ 62} d (omega arith) in
+        let m = mul-le-mul_right {m = h + 1} {n = MAX_TIME} d (omega arith) in
         omega arith
     fits n u low d h parts rest (inr both) =
         let none : low * u ≡ 0 * u = ap (λ x. x * u) both.1 in
         let nothing : 0 * u ≡ 0 = omega arith in
-        let all : h * d ≡ 2 ^ 62 * d = ap (λ x. x * d) both.0 in
+        let all : h * d ≡ MAX_TIME * d = ap (λ x. x * d) both.0 in
         omega arith
 
 pub raised_big : (n head low q u s d : ℕ) → n ≡ head * q + low → q * u ≡ s * d → 0 < u → 0 < d
-    → (2 ^ 62 < head * s) ⊎ ((head * s ≡ 2 ^ 62) × (0 < low)) → within_limit (n * u) d ≡ Err Big
+    → (MAX_TIME < head * s) ⊎ ((head * s ≡ MAX_TIME) × (0 < low)) → within_limit (n * u) d ≡ Err Big
 raised_big n head low q u s d e turned some pos above =
-    rw (lt-ltb (2 ^ 62 * d) (n * u) (over n u low d (head * s) (split n head low q u s d e turned) some pos
+    rw (lt-ltb (MAX_TIME * d) (n * u) (over n u low d (head * s) (split n head low q u s d e turned) some pos
     above)) refl
   where
     split : (n head low q u s d : ℕ) → n ≡ head * q + low → q * u ≡ s * d → n * u ≡ head * s * d + low * u
     split n head low q u s d e turned = let m : head * (q * u) ≡ head * (s * d) = ap (λ x. head * x) turned
         in rw e (omega arith)
 
-    over : (n u low d h : ℕ) → n * u ≡ h * d + low * u → 0 < u → 0 < d → (2 ^ 62 < h)
-        ⊎ ((h ≡ 2 ^ 62) × (0 < low)) → 2 ^ 62 * d < n * u
+    over : (n u low d h : ℕ) → n * u ≡ h * d + low * u → 0 < u → 0 < d → (MAX_TIME < h)
+        ⊎ ((h ≡ MAX_TIME) × (0 < low)) → MAX_TIME * d < n * u
     over n u low d h parts some pos (inl above) =
-        let m = mul-le-mul_right {m = 2 ^ 62 + 1} {n = h} d (omega arith) in
+        let m = mul-le-mul_right {m = MAX_TIME + 1} {n = h} d (omega arith) in
         omega arith
     over n u low d h parts some pos (inr both) =
         let m = mul-le-mul_right {m = 1} {n = low} u (omega arith) in
-        let all : h * d ≡ 2 ^ 62 * d = ap (λ x. x * d) both.0 in
+        let all : h * d ≡ MAX_TIME * d = ap (λ x. x * d) both.0 in
         omega arith
 
 -- powers of ten on both sides of an equation of their exponents
@@ -189,7 +143,7 @@ turned_powers more up down fits =
     sym (pow-add 10 more up) ∙ (ap (λ k. 10 ^ k) whole ∙ pow-add 10 (more + up - down) down)
 
 -- where something is behind the head, the head is full, and has no room for zeros
-pub no_zeros : (head places low : ℕ) → (0 < low → 10 ^ 18 ≤ head) → head * 10 ^ places ≤ 2 ^ 62
+pub no_zeros : (head places low : ℕ) → (0 < low → 10 ^ 18 ≤ head) → head * 10 ^ places ≤ MAX_TIME
     → (10 ^ places ≡ 1) ⊎ (low ≡ 0)
 no_zeros head places zero full limit = inr refl
 no_zeros head zero (suc low) full limit = inl refl
@@ -212,8 +166,8 @@ low_full head (suc more) low below full some = full (omega arith)
 pub scaled_up : (r : Result ℕ DateFault) (n head more low up down time : ℕ) (tail : Bool)
     → n ≡ head * 10 ^ more + low → low < 10 ^ more → (IsTrue tail ↔ (0 < low)) → (0 < more → 10 ^ 18 ≤ head)
     → down ≤ more + up → time ≡ head * 10 ^ (more + up - down)
-    → IfOk r (λ t. (t ≡ time) × ((time < 2 ^ 62) ⊎ ((time ≡ 2 ^ 62) × (tail ≡ false))))
-    → IfErr r (λ e. (e ≡ Big) × ((2 ^ 62 < time) ⊎ ((time ≡ 2 ^ 62) × (tail ≡ true))))
+    → IfOk r (λ t. (t ≡ time) × ((time < MAX_TIME) ⊎ ((time ≡ MAX_TIME) × (tail ≡ false))))
+    → IfErr r (λ e. (e ≡ Big) × ((MAX_TIME < time) ⊎ ((time ≡ MAX_TIME) × (tail ≡ true))))
     → r ≡ within_limit (n * 10 ^ up) (10 ^ down)
 scaled_up (Ok t) n head more low up down time tail e below tells full near is ok err =
     ap Ok (ok.0 ∙ is) ∙ sym (raised_ok n head low (10 ^ more) (10 ^ up) (10 ^ (more + up - down)) (10 ^ down)
@@ -222,12 +176,12 @@ scaled_up (Ok t) n head more low up down time tail e below tells full near is ok
     (most (head * 10 ^ (more + up - down)) time is ok.1))
     (limit (head * 10 ^ (more + up - down)) time is tells ok.1))
   where
-    most : (h time : ℕ) → time ≡ h → (time < 2 ^ 62) ⊎ ((time ≡ 2 ^ 62) × (tail ≡ false)) → h ≤ 2 ^ 62
+    most : (h time : ℕ) → time ≡ h → (time < MAX_TIME) ⊎ ((time ≡ MAX_TIME) × (tail ≡ false)) → h ≤ MAX_TIME
     most h time is (inl a) = omega arith
     most h time is (inr b) = omega (arith, b.0)
 
-    limit : (h time : ℕ) → time ≡ h → (IsTrue tail ↔ (0 < low)) → (time < 2 ^ 62)
-        ⊎ ((time ≡ 2 ^ 62) × (tail ≡ false)) → (h < 2 ^ 62) ⊎ ((h ≡ 2 ^ 62) × (low ≡ 0))
+    limit : (h time : ℕ) → time ≡ h → (IsTrue tail ↔ (0 < low)) → (time < MAX_TIME)
+        ⊎ ((time ≡ MAX_TIME) × (tail ≡ false)) → (h < MAX_TIME) ⊎ ((h ≡ MAX_TIME) × (low ≡ 0))
     limit h time is tells (inl a) = inl (omega arith)
     limit h time is tells (inr b) = inr (sym is ∙ b.0, low_none tail low tells b.1)
 scaled_up (Err f) n head more low up down time tail e below tells full near is ok err =
@@ -235,23 +189,7 @@ scaled_up (Err f) n head more low up down time tail e below tells full near is o
     (turned_powers more up down near) (ten_pow_pos up) (ten_pow_pos down)
     (above (head * 10 ^ (more + up - down)) time is tells err.1))
   where
-    above : (h time : ℕ) → time ≡ h → (IsTrue tail ↔ (0 < low)) → (2 ^ 62 < time)
-        ⊎ ((time ≡ 2 ^ 62) × (tail ≡ true)) → (2 ^ 62 < h) ⊎ ((h ≡ 2 ^ 62) × (0 < low))
+    above : (h time : ℕ) → time ≡ h → (IsTrue tail ↔ (0 < low)) → (MAX_TIME < time)
+        ⊎ ((time ≡ MAX_TIME) × (tail ≡ true)) → (MAX_TIME < h) ⊎ ((h ≡ MAX_TIME) × (0 < low))
     above h time is tells (inl a) = inl (omega arith)
     above h time is tells (inr b) = inr (sym is ∙ b.0, tells.0 b.1)
-
--- ---- a number that isn't scaled
-
-pub unscaled_ok : (n size : ℕ) → Ok size ≡ within_limit (n * 10 ^ 0) (10 ^ 0) → n ≡ size
-unscaled_ok n size e = go (ltb (2 ^ 62 * 1) (n * 1)) e
-  where
-    go : (b : Bool) → Ok size ≡ cond b (Err Big) (Ok (n * 1 / 1)) → n ≡ size
-    go true e = cc
-    go false e = let same : size ≡ n * 1 / 1 = cc in omega arith
-
-pub unscaled_err : (n : ℕ) (f : DateFault) → Err f ≡ within_limit (n * 10 ^ 0) (10 ^ 0) → 2 ^ 62 < n
-unscaled_err n f e = go (ltb (2 ^ 62 * 1) (n * 1)) refl e
-  where
-    go : (b : Bool) → ltb (2 ^ 62 * 1) (n * 1) ≡ b → Err f ≡ cond b (Err Big) (Ok (n * 1 / 1)) → 2 ^ 62 < n
-    go true t e = let less = ltb-true (2 ^ 62 * 1) (n * 1) t in omega arith
-    go false t e = cc

@@ -1,12 +1,15 @@
 -- Which date a text is, as a function that computes.
-use Rattle.std.specs.Prelude.{ℕ, ◌&&◌, ◌||◌, ◌==◌, List, [], ◌∷◌, ◌++◌, length, take, drop, Bool, Option}
+use Rattle.std.specs.Prelude.{◌≡◌, ℕ, ◌&&◌, ◌||◌, ◌==◌, List, [], ◌∷◌, ◌++◌, length, take, drop, Bool, Option}
 use Rattle.std.specs.Prelude.{Some, None, Err, Result, unwrap_or, if◌then◌else◌, nat_lt, nat_le}
 use Rattle.std.specs.List.{take_while, prefix_len, list_all}
 use Rattle.std.specs.Option.{option_map}
 use Rattle.std.specs.Char.{is_ascii_digit}
+use Rattle.std.specs.Str.Parse.{digits_value}
+use Rattle.decimal_digits.specs.Held.{Holds}
+use Rattle.paje_lex.specs.declared.dates.Mantissa.{Mantissa}
 use Rattle.paje_lex.specs.declared.date_fault.DateFault.{DateFault}
 use Rattle.paje_lex.specs.declared.date_fault.DateFault.TheVariants.{Shape}
-use Rattle.paje_lex.specs.DateGrammar.{Date, Exponent, number, fraction_text, meaning}
+use Rattle.paje_lex.specs.DateGrammar.{Date, Exponent, fraction_text, meaning}
 
 abbrev pub is_sign : ℕ → Bool
 is_sign b = b == 43 || b == 45
@@ -31,7 +34,7 @@ places_at body = length (unwrap_or (fraction_at body) [])
 
 abbrev pub are_exponent_digits : List ℕ → Bool
 are_exponent_digits bs = list_all is_ascii_digit bs
-    && (nat_lt 0 (length bs) && (nat_le (length bs) 4 && nat_le (number bs) 30))
+    && (nat_lt 0 (length bs) && (nat_le (length bs) 4 && nat_le (digits_value 10 bs) 30))
 
 abbrev pub is_exponent_letter : ℕ → Bool
 is_exponent_letter b = b == 101 || b == 69
@@ -77,9 +80,17 @@ unfoldable pub parts_of : List ℕ → Option Date
 parts_of text = date_parts (take (sign_len text) text) (body_of text)
 
 -- the time of a text in nanoseconds, or why it has none
-abbrev pub time_of : Option Date → Result ℕ DateFault
-time_of None = Err Shape
-time_of (Some d) = meaning d
+abbrev pub meaning_or_shape : Option Date → Result ℕ DateFault
+meaning_or_shape None = Err Shape
+meaning_or_shape (Some d) = meaning d
 
 abbrev pub date_of : List ℕ → Result ℕ DateFault
-date_of text = time_of (parts_of text)
+date_of text = meaning_or_shape (parts_of text)
+
+-- ---- what the code reads of a text behind its sign
+
+pub record IsRead (text : List ℕ) (m : Mantissa) : Type 0 where
+  pub digits : Holds m.digits (digits_at (body_of text))
+  pub count : m.count ≡ length (digits_at (body_of text))
+  pub places : m.places ≡ places_at (body_of text)
+  pub rest : m.rest.now ≡ behind_digits (body_of text)

@@ -50,17 +50,17 @@ IsPiece (quoted bytes) = NoQuotes bytes
 IsPiece (plain bytes) = IsPlain bytes
 
 -- a token without quotes ends at a blank or at the line's end
-abbrev pub MayFollow : Piece → List Piece → Type 0
-MayFollow (plain bytes) (quoted more ∷ ps) = ⊥
-MayFollow (plain bytes) (plain more ∷ ps) = ⊥
-MayFollow (plain bytes) (blank b ∷ ps) = Unit {0}
-MayFollow (plain bytes) [] = Unit {0}
-MayFollow (blank b) ps = Unit {0}
-MayFollow (quoted bytes) ps = Unit {0}
+abbrev pub MayStandBefore : Piece → List Piece → Type 0
+MayStandBefore (plain bytes) (quoted more ∷ ps) = ⊥
+MayStandBefore (plain bytes) (plain more ∷ ps) = ⊥
+MayStandBefore (plain bytes) (blank b ∷ ps) = Unit {0}
+MayStandBefore (plain bytes) [] = Unit {0}
+MayStandBefore (blank b) ps = Unit {0}
+MayStandBefore (quoted bytes) ps = Unit {0}
 
 abbrev pub ArePieces : List Piece → Type 0
 ArePieces [] = Unit {0}
-ArePieces (p ∷ ps) = IsPiece p × MayFollow p ps × ArePieces ps
+ArePieces (p ∷ ps) = IsPiece p × MayStandBefore p ps × ArePieces ps
 
 -- ---- where the tokens stand
 

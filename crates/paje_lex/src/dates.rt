@@ -1,18 +1,25 @@
 ghost use Rattle.std.specs.Prelude.{◌≡◌, ℕ, ◌+◌, ◌*◌, ◌/◌, ◌^◌, ◌<◌, ◌≤◌, ◌==◌, ◌↔◌, ◌⊎◌, ◌++◌, length, drop};
 ghost use Rattle.std.specs.Prelude.{take, IsTrue, IfOk, IfSome, Option, Some, None, Err, if◌then◌else◌};
-ghost use Rattle.paje_lex.specs.DateGrammar.{Date, IsDate, date_text, is_minus, tens_of, number, meaning};
+ghost use Rattle.std.specs.Str.Parse.{digits_value};
+ghost use Rattle.decimal_digits.specs.Held.{Holds};
+ghost use Rattle.paje_lex.specs.DateGrammar.{Date, IsDate, date_text, is_minus, tens_of, meaning};
 ghost use Rattle.paje_lex.specs.DateGrammar.{numerator, denominator};
 ghost use Rattle.paje_lex.specs.DateReading.{date_of, sign_len, exponent_of, exponent_behind};
-ghost use Rattle.paje_lex.specs.DateReading.{are_exponent_digits, digits_at, places_at, behind_digits};
-ghost use Rattle.paje_lex.specs.DigitsSpec.{Holds};
+ghost use Rattle.paje_lex.specs.DateReading.{IsRead, are_exponent_digits, digits_at, places_at};
+ghost use Rattle.paje_lex.specs.DateReading.{behind_digits};
 ghost use Rattle.std.specs.Option.{option_map};
 
 use crate::date_fault::DateFault;
-use crate::digits::Digits;
+use crate::powers::scaled;
+use decimal_digits::{Digits, decimal};
 
 /// The most digits of an exponent.
 const EXPONENT_DIGITS: usize = 4;
 
+/// The greatest number of an exponent.
+const MAX_EXPONENT: u64 = 30;
+
+/// The length of the sign at the front.
 fn sign_length(text: &[u8]) -> usize
     ensures { result ≡ sign_len text.now }
 {
@@ -29,15 +36,18 @@ struct Tens {
     down: usize,
 }
 
-/// The digits of a date, with and without the point, and the text behind them.
+/// The digits of a date without its point, and the text behind them.
 #[derive(Drop)]
 struct Mantissa<'a> {
     digits: Digits,
+    /// How many they are.
     count: usize,
+    /// How many of them stand behind the point.
     places: usize,
     rest: &'a [u8],
 }
 
+/// Whether the sign at the front is a minus.
 fn is_negative(text: &[u8]) -> bool
     ensures { result ≡ is_minus (take (sign_len text.now) text.now) }
 {
@@ -47,7 +57,8 @@ fn is_negative(text: &[u8]) -> bool
     }
 }
 
-fn read_mantissa(body: &[u8]) -> Mantissa<'_>
+/// The digits at the front of a text, with a point or none, and what is behind them.
+fn read_digits(body: &[u8]) -> Mantissa<'_>
     ensures number { Holds result.digits (digits_at body.now) }
     ensures count { result.count ≡ length (digits_at body.now) }
     ensures places { result.places ≡ places_at body.now }
@@ -74,16 +85,24 @@ fn read_mantissa(body: &[u8]) -> Mantissa<'_>
     }
 }
 
-fn exponent_size(text: &[u8]) -> Option<usize>
-    ensures size { result ≡ (if are_exponent_digits text.now then Some (number text.now) else None) }
-    ensures small { IfSome result (λ n. n ≤ 30) }
+/// The digits of a date behind its sign.
+fn read_mantissa(text: &[u8]) -> Mantissa<'_>
+    ensures read { IsRead text.now result }
+    ensures more { result.digits.more ≤ length text.now }
 {
-    let (digits, count) = Digits::new().read(text);
-    if text.is_empty() || text.len() > EXPONENT_DIGITS || count < text.len() {
+    read_digits(&text[sign_length(text)..])
+}
+
+/// The number of an exponent's digits.
+fn exponent_size(text: &[u8]) -> Option<usize>
+    ensures size { result ≡ (if are_exponent_digits text.now then Some (digits_value 10 text.now) else None) }
+    ensures small { IfSome result (λ n. n ≤ MAX_EXPONENT) }
+{
+    if text.len() > EXPONENT_DIGITS {
         return None;
     }
-    match digits.scaled(0, 0) {
-        Ok(size) if size <= 30 => Some(size as usize),
+    match decimal(text) {
+        Some(size) if size <= MAX_EXPONENT => Some(size as usize),
         _ => None,
     }
 }
@@ -92,7 +111,7 @@ fn exponent_size(text: &[u8]) -> Option<usize>
 fn signed_size(text: &[u8]) -> Option<Tens>
     ensures tens { option_map {U = ℕ × ℕ} (λ t. (t.up, t.down)) result
         ≡ option_map (λ e. tens_of (Some e)) (exponent_behind 101 text.now) }
-    ensures small { IfSome result (λ t. (t.up ≤ 30) × (t.down ≤ 30)) }
+    ensures small { IfSome result (λ t. (t.up ≤ 30) × (t.down ≤ MAX_EXPONENT)) }
 {
     let Some(size) = exponent_size(&text[sign_length(text)..]) else {
         return None;
@@ -103,10 +122,11 @@ fn signed_size(text: &[u8]) -> Option<Tens>
     Some(Tens { up: size, down: 0 })
 }
 
+/// The exponent that a whole text is, which may be empty.
 fn read_exponent(text: &[u8]) -> Option<Tens>
     ensures tens { option_map {U = ℕ × ℕ} (λ t. (t.up, t.down)) result
         ≡ option_map tens_of (exponent_of text.now) }
-    ensures small { IfSome result (λ t. (t.up ≤ 30) × (t.down ≤ 30)) }
+    ensures small { IfSome result (λ t. (t.up ≤ 30) × (t.down ≤ MAX_EXPONENT)) }
 {
     if text.is_empty() {
         return Some(Tens { up: 0, down: 0 });
@@ -120,17 +140,17 @@ fn read_exponent(text: &[u8]) -> Option<Tens>
 fn read_date(text: &[u8]) -> Result<u64, DateFault>
     ensures { result ≡ date_of text.now }
 {
-    let number = read_mantissa(&text[sign_length(text)..]);
-    let Some(tens) = read_exponent(number.rest) else {
+    let mantissa = read_mantissa(text);
+    let Some(tens) = read_exponent(mantissa.rest) else {
         return Err(DateFault::Shape);
     };
-    if number.count == 0 {
+    if mantissa.count == 0 {
         return Err(DateFault::Shape);
     }
-    if is_negative(text) && !number.digits.is_zero() {
+    if is_negative(text) && !mantissa.digits.is_zero() {
         return Err(DateFault::Negative);
     }
-    number.digits.scaled(9 + tens.up, number.places + tens.down)
+    scaled(mantissa.digits, 9 + tens.up, mantissa.places + tens.down)
 }
 
 /// The whole nanoseconds that a date of a trace line means.

@@ -1,4 +1,4 @@
-//! Worked rows: what the definitions give on texts whose answers are known.
+//! What the definitions give on texts whose answers are known.
 
 ghost use Rattle.std.specs.Prelude.{◌≡◌, [], ◌∷◌, ◌++◌, map, codes, replicate, true, false, Ok, Err};
 ghost use Rattle.paje_lex.specs.DateReading.{date_of};
@@ -29,7 +29,8 @@ pub fn date_examples()
 /// Lines and where their tokens stand.
 pub fn token_examples()
     ensures spaced { Lexes (codes "4 0.1\tS  p0 ") (Ok (token 0 1 ∷ token 2 5 ∷ token 6 7 ∷ token 9 11 ∷ [])) }
-    ensures definition { Lexes (codes " \t%EventDef X 4") (Ok (token 3 11 ∷ token 12 13 ∷ token 14 15 ∷ [])) }
+    ensures definition { Lexes (codes " \t%EventDef X 4") (Ok (token 3 11 ∷ token 12 13 ∷ token 14 15
+        ∷ [])) }
     ensures field { Lexes (codes "% Time date") (Ok (token 2 6 ∷ token 7 11 ∷ [])) }
     ensures none { Lexes (codes "%") (Ok []) }
     ensures percent { Lexes (codes "5 %a") (Ok (token 0 1 ∷ token 2 4 ∷ [])) }

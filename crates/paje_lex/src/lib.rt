@@ -3,11 +3,11 @@
 
 mod date_fault;
 mod dates;
-mod digits;
 mod examples;
 mod lex_fault;
 mod line;
 mod line_kinds;
+mod powers;
 mod state;
 mod token;
 

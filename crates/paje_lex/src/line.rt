@@ -74,6 +74,7 @@ pub fn tokens(alloc: Global, line: &[u8]) -> Result<Seq<Token>, LexFault>
     // What is so by the grammar is told, unless memory runs out.
     ensures only { (wanted : Answer) → Lexes line.now wanted → UnlessMemory result wanted }
     ensures within { IfOk result (StandIn (length line.now)) }
+    ensures exact { UnlessMemory result (lexed line.now) }
 {
     read_tokens(alloc, line)
 }
