@@ -24,9 +24,10 @@ use Rattle.paje_defs.specs.Definition.{AreWhole, IsWhole, is_named, place_of, pl
 use Rattle.paje_defs.specs.Numbers.{event_number_of}
 use Rattle.paje_defs.specs.Role.{first_name, needed, second_name}
 use Rattle.paje_defs.specs.Lines.{definition_of}
-use Rattle.paje_defs.specs.Events.{Event, RolesStand, Tells, event_numbered, event_of, event_under, role_text}
+use Rattle.paje_defs.specs.Events.{Event, RolesStand, Tells, event_numbered, told_event, event_under}
+use Rattle.paje_defs.specs.Events.{role_text}
 use Rattle.paje_defs.specs.Events.{text_at, time_of_text, timed}
-use Rattle.paje_defs.specs.Texts.{HasNeeded, text_of}
+use Rattle.paje_defs.specs.Texts.{HasNeeded, text_by_role}
 
 -- ---- where a field stands
 
@@ -95,7 +96,7 @@ found_by entries words (Some number) e is = numbered_by entries words number (de
     refl is
 
 event_found : (entries : List (ℕ × Definition)) (words : List (List ℕ)) (e : Event)
-    → event_of entries words ≡ Ok e → IsFound entries words e.definition
+    → told_event entries words ≡ Ok e → IsFound entries words e.definition
 event_found entries words e is = found_by entries words (option_and_then event_number_of (slice_get words 0))
     e is
 
@@ -110,11 +111,11 @@ ok_is : (a b : Event) (r : Result Event EventFault) → r ≡ Ok a → r ≡ Ok 
 ok_is a b r one other = ap (λ r. result_unwrap_or r a) (sym one ∙ other)
 
 pub roles_stand : (entries : List (ℕ × Definition)) (words : List (List ℕ)) (r : Result Fields EventFault)
-    → Tells words r (event_of entries words)
-    → (e : Event) → event_of entries words ≡ Ok e → IfOk r (RolesStand e.definition)
+    → Tells words r (told_event entries words)
+    → (e : Event) → told_event entries words ≡ Ok e → IfOk r (RolesStand e.definition)
 roles_stand entries words (Err f) tells e is = tt
 roles_stand entries words (Ok f) (told, wanted, time, are) e is = λ role.
-    let same : told ≡ e = ok_is told e (event_of entries words) wanted is in
+    let same : told ≡ e = ok_is told e (told_event entries words) wanted is in
     let found = event_found entries words e is in
     ap is_some (are.texts role)
     ∙ (ap (λ t. is_some (role_text t.definition words role)) same
@@ -148,24 +149,25 @@ insert_whole (entry ∷ entries) number d whole is = by_test (nat_eq number entr
     by_test false later = (whole.0, later)
 
 none_missing : (event : EventName) (fields : List Field) (t : Texts) (asked : List Role)
-    → ((role : Role) → is_some (text_of t role) ≡ is_some (place_of event fields role))
+    → ((role : Role) → is_some (text_by_role t role) ≡ is_some (place_of event fields role))
     → is_some (find (λ role. is_none (place_of event fields role)) asked) ≡ false
-    → AllByRecursion (λ role. IsSome (text_of t role)) asked
+    → AllByRecursion (λ role. IsSome (text_by_role t role)) asked
 none_missing event fields t [] stand none = tt
 none_missing event fields t (role ∷ asked) stand none = by_place (place_of event fields role) (stand role)
     none (none_missing event fields t asked stand)
   where
-    by_place : (place : Option ℕ) → is_some (text_of t role) ≡ is_some place
+    by_place : (place : Option ℕ) → is_some (text_by_role t role) ≡ is_some place
         → is_some (cond (is_none place) (Some role)
         (find (λ role. is_none (place_of event fields role)) asked)) ≡ false
         → (is_some (find (λ role. is_none (place_of event fields role)) asked) ≡ false
-        → AllByRecursion (λ role. IsSome (text_of t role)) asked)
-        → AllByRecursion (λ role. IsSome (text_of t role)) (role ∷ asked)
+        → AllByRecursion (λ role. IsSome (text_by_role t role)) asked)
+        → AllByRecursion (λ role. IsSome (text_by_role t role)) (role ∷ asked)
     by_place None stands e later = absurd (true≢false e)
     by_place (Some at) stands e later = (stands, later e)
 
 pub has_needed : (d : Definition) (words : List (List ℕ)) (t : Texts)
-    → ((role : Role) → text_of t role ≡ role_text d words role) → length d.fields < length words → IsWhole d
+    → ((role : Role) → text_by_role t role ≡ role_text d words role) → length d.fields < length words
+    → IsWhole d
     → HasNeeded d.event t
 has_needed d words t texts enough whole =
     none_missing d.event d.fields t (needed d.event)

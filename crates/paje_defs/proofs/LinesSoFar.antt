@@ -15,11 +15,13 @@ use Rattle.paje_defs.specs.declared.def_fault.DefFault.{DefFault}
 use Rattle.paje_defs.specs.declared.def_fault.DefFault.TheVariants.{Shape, Nested, UnknownName, DoubleNumber}
 use Rattle.paje_defs.specs.declared.def_fault.DefFault.TheVariants.{UnknownType, MissingField, Memory}
 use Rattle.paje_defs.specs.Definition.{missing}
-use Rattle.paje_defs.specs.Lines.{Definitions, Line, Placed, begin_reason, begins, begun_in, complete_in}
+use Rattle.paje_defs.specs.Lines.{Definitions, Line, Placed, begin_reason, begins_definition, begun_in}
+use Rattle.paje_defs.specs.Lines.{complete_in}
 use Rattle.paje_defs.specs.Lines.{defined_by, defined_event, defined_number, definitions_of_lines, end_reason}
-use Rattle.paje_defs.specs.Lines.{ends, entry_of, field_of, field_reason, field_type, first_line, first_of}
+use Rattle.paje_defs.specs.Lines.{ends_definition, definition_entry, field_of, field_reason, field_type}
+use Rattle.paje_defs.specs.Lines.{first_line, first_of}
 use Rattle.paje_defs.specs.Lines.{first_refused, placed, reason, reason_at, refusal, taken, when}
-use Rattle.paje_defs.specs.Table.{Steps, after, grown, with_ended}
+use Rattle.paje_defs.specs.Table.{TakesUnless, after, grown, with_ended}
 use Rattle.paje_defs.proofs.OneMoreLine.{begun-more, begun_after, complete-more, placed-more}
 use Rattle.paje_defs.proofs.TakenLines.{IsFresh, Lacks, is_refused, not_both, taken_fresh}
 
@@ -86,7 +88,7 @@ refused_next lines line fault none is =
     ∙ ap (all_of (complete_in lines) (begun_in lines)) is)
 
 ended_goes_last : (entries : List (ℕ × Definition)) (begun : Option Begun) → Lacks entries begun
-    → with_ended entries begun ≡ entries ++ option_to_list (option_map entry_of begun)
+    → with_ended entries begun ≡ entries ++ option_to_list (option_map definition_entry begun)
 ended_goes_last entries None lacks = sym (append-nil entries)
 ended_goes_last entries (Some b) lacks = insert_entry-absent nat_eq b.number b.definition entries
     (absent_from_lookup (nat_eq b.number) entries lacks)
@@ -95,7 +97,7 @@ after_is : (entries : List (ℕ × Definition)) (begun grown : Option Begun) (li
     (fault : Option DefFault) (b e : Bool) → (b ≡ true → e ≡ true → ⊥) → Lacks entries begun
     → cond b (all_of entries (defined_by [] line) fault)
     (cond e (all_of (with_ended entries begun) None fault) (all_of entries grown fault))
-    ≡ all_of (entries ++ option_to_list (cond e (option_map entry_of begun) None))
+    ≡ all_of (entries ++ option_to_list (cond e (option_map definition_entry begun) None))
     (cond b (defined_by [] line) (cond e None grown)) fault
 after_is entries begun grown line fault true true apart lacks = absurd (apart refl refl)
 after_is entries begun grown line fault true false apart lacks =
@@ -116,7 +118,7 @@ taken_next : (lines : List Line) (line : Line) → first_refused lines ≡ None
 taken_next lines line none is =
     after_is (complete_in lines) (begun_in lines) (option_map (grown (option_to_list (field_of line.words)))
     (begun_in lines)) line None
-    (begins line.words) (ends line.words) (not_both line.words)
+    (begins_definition line.words) (ends_definition line.words) (not_both line.words)
     (subst IsFresh (taken_all lines none) (taken_fresh lines))
     ∙ (ap (λ entries. all_of entries (begun_after (begun_in lines) line) None)
     (sym (complete-more lines line))
@@ -190,7 +192,7 @@ end_not_memory begun =
 
 not_memory : (entries : List (ℕ × Definition)) (begun : Option Begun) (words : List (List ℕ))
     → NotMemory (reason entries begun words)
-not_memory entries begun words = by (begins words) (ends words)
+not_memory entries begun words = by (begins_definition words) (ends_definition words)
   where
     by : (b e : Bool) → NotMemory (cond b (begin_reason entries begun words)
         (cond e (end_reason begun) (field_reason begun words)))
@@ -209,8 +211,8 @@ all_before : (before : List Line) (old : Definitions) → old ≡ definitions_of
     → old ≡ all_of (complete_in before) (begun_in before) None
 all_before before old is e = is ∙ ap (known before) (none_before before old is e)
 
-abbrev pub StepsBy : Definitions → Line → Definitions → Result (Unit {0}) DefFault → Type 0
-StepsBy old line new r = Steps old new r (reason old.complete old.begun line.words) (after old line)
+abbrev pub TakesBy : Definitions → Line → Definitions → Result (Unit {0}) DefFault → Type 0
+TakesBy old line new r = TakesUnless old new r (reason old.complete old.begun line.words) (after old line)
 
 -- It was refused before.
 pub refused_before : (before : List Line) (line : Line) (old : Definitions) (fault : DefFault)
@@ -221,12 +223,12 @@ refused_before before line old fault is e =
 
 -- The line is taken.
 pub takes_line : (before : List Line) (line : Line) (old new : Definitions) (r : Unit {0})
-    → old ≡ definitions_of_lines before → old.fault ≡ None → StepsBy old line new (Ok r)
+    → old ≡ definitions_of_lines before → old.fault ≡ None → TakesBy old line new (Ok r)
     → (new ≡ definitions_of_lines (before ++ line ∷ [])) × (new.fault ≡ None)
 takes_line before line old new r is e steps =
     let none = none_before before old is e in
-    let by_facts : StepsBy (all_of (complete_in before) (begun_in before) None) line new (Ok r) =
-    subst (λ d. StepsBy d line new (Ok r)) (all_before before old is e) steps in
+    let by_facts : TakesBy (all_of (complete_in before) (begun_in before) None) line new (Ok r) =
+    subst (λ d. TakesBy d line new (Ok r)) (all_before before old is e) steps in
     let next : new ≡ definitions_of_lines (before ++ line ∷ []) = by_facts.1 ∙ taken_next before line none
     by_facts.0 in
     (next, ap (λ d. d.fault) next ∙ refusal_next before line None none by_facts.0)
@@ -234,7 +236,7 @@ takes_line before line old new r is e steps =
 -- The line is refused.
 pub refuses_line : (before : List Line) (line : Line) (old new : Definitions) (fault : DefFault)
     → old ≡ definitions_of_lines before → old.fault ≡ None → is_memory fault ≡ false
-    → StepsBy old line new (Err fault) → all_of new.complete new.begun (Some fault) ≡ definitions_of_lines
+    → TakesBy old line new (Err fault) → all_of new.complete new.begun (Some fault) ≡ definitions_of_lines
     (before ++ line ∷ [])
 refuses_line before line old new fault is e apart (same, inl out) =
     absurd (true≢false (sym (ap is_memory out.0) ∙ apart))
@@ -247,7 +249,7 @@ refuses_line before line old new fault is e apart (same, inr why) =
 -- Memory ran out.
 pub runs_out : (before : List Line) (line : Line) (old new : Definitions) (fault : DefFault)
     → old ≡ definitions_of_lines before → old.fault ≡ None → fault ≡ Memory
-    → StepsBy old line new (Err fault) → (refusal (before ++ line ∷ []) ≡ None)
+    → TakesBy old line new (Err fault) → (refusal (before ++ line ∷ []) ≡ None)
     × (new ≡ definitions_of_lines before)
 runs_out before line old new fault is e memory (same, inl out) = (
   refusal_next before line None (none_before before old is e)

@@ -9,8 +9,9 @@ use Rattle.std.proofs.lemmas.List.Elements.{filter-append, filter_map-append}
 use Rattle.paje_defs.specs.declared.event_name.EventName.{EventName}
 use Rattle.paje_defs.specs.declared.field.Field.{Field}
 use Rattle.paje_defs.specs.declared.begun.Begun.{Begun}
-use Rattle.paje_defs.specs.Lines.{Line, begins, begun_by, begun_in, borders, complete_in, defined_by}
-use Rattle.paje_defs.specs.Lines.{defined_event, defined_number, ended_at, ends, field_of, placed}
+use Rattle.paje_defs.specs.Lines.{Line, begins_definition, begun_by, begun_in, borders, complete_in}
+use Rattle.paje_defs.specs.Lines.{defined_by}
+use Rattle.paje_defs.specs.Lines.{defined_event, defined_number, ended_at, ends_definition, field_of, placed}
 use Rattle.paje_defs.specs.Lines.{placed_behind}
 use Rattle.paje_defs.specs.Table.{grown}
 
@@ -60,12 +61,13 @@ one_or_none (Some x) = refl
 -- ---- what is begun
 
 abbrev pub begun_after : Option Begun → Line → Option Begun
-begun_after begun line = cond (begins line.words) (defined_by [] line)
-    (cond (ends line.words) None (option_map (grown (option_to_list (field_of line.words))) begun))
+begun_after begun line = cond (begins_definition line.words) (defined_by [] line)
+    (cond (ends_definition line.words) None (option_map (grown (option_to_list (field_of line.words))) begun))
 
 more_fields : (fields more : List Field) (line : Line) → begun_by (fields ++ more) line ≡ option_map
     (grown more) (begun_by fields line)
-more_fields fields more line = by (begins line.words) (defined_number line.words) (defined_event line.words)
+more_fields fields more line = by (begins_definition line.words) (defined_number line.words)
+    (defined_event line.words)
   where
     by : (b : Bool) (number : Option ℕ) (event : Option EventName)
         → cond b
@@ -119,20 +121,21 @@ begun-field lines line inner =
 
 pub begun-more : (lines : List Line) (line : Line) → begun_in (lines ++ line ∷ []) ≡ begun_after
     (begun_in lines) line
-begun-more lines line = by (begins line.words) (ends line.words) refl refl (begun-border lines line)
+begun-more lines line = by (begins_definition line.words) (ends_definition line.words) refl refl
+    (begun-border lines line)
     (begun-field lines line)
   where
-    by : (b e : Bool) → begins line.words ≡ b → ends line.words ≡ e
+    by : (b e : Bool) → begins_definition line.words ≡ b → ends_definition line.words ≡ e
         → (borders line ≡ true → begun_in (lines ++ line ∷ []) ≡ begun_by [] line)
         → (borders line ≡ false → begun_in (lines ++ line ∷ []) ≡ option_map
         (grown (option_to_list (field_of line.words))) (begun_in lines))
         → begun_in (lines ++ line ∷ []) ≡ cond b (defined_by [] line)
         (cond e None (option_map (grown (option_to_list (field_of line.words))) (begun_in lines)))
-    by true e is other border inner = border (ap (λ b. b || ends line.words) is) ∙ ap
+    by true e is other border inner = border (ap (λ b. b || ends_definition line.words) is) ∙ ap
         (λ b. cond b (defined_by [] line) None) is
-    by false true is other border inner = border (ap (λ b. b || ends line.words) is ∙ other) ∙ ap
+    by false true is other border inner = border (ap (λ b. b || ends_definition line.words) is ∙ other) ∙ ap
         (λ b. cond b (defined_by [] line) None) is
-    by false false is other border inner = inner (ap (λ b. b || ends line.words) is ∙ other)
+    by false false is other border inner = inner (ap (λ b. b || ends_definition line.words) is ∙ other)
 
 -- ---- what is complete
 

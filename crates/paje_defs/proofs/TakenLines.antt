@@ -12,8 +12,10 @@ use Rattle.paje_defs.specs.declared.definition.Definition.{Definition}
 use Rattle.paje_defs.specs.declared.begun.Begun.{Begun}
 use Rattle.paje_defs.specs.declared.def_fault.DefFault.{DefFault}
 use Rattle.paje_defs.specs.declared.def_fault.DefFault.TheVariants.{DoubleNumber, Nested, Shape, UnknownName}
-use Rattle.paje_defs.specs.Lines.{Line, Placed, begin_reason, begins, begun_in, complete_in, defined_by}
-use Rattle.paje_defs.specs.Lines.{defined_event, defined_number, definition_of, end_reason, ends, entry_of}
+use Rattle.paje_defs.specs.Lines.{Line, Placed, begin_reason, begins_definition, begun_in, complete_in}
+use Rattle.paje_defs.specs.Lines.{defined_by}
+use Rattle.paje_defs.specs.Lines.{defined_event, defined_number, definition_of, end_reason, ends_definition}
+use Rattle.paje_defs.specs.Lines.{definition_entry}
 use Rattle.paje_defs.specs.Lines.{field_of, field_reason, first_line, first_of, placed_behind, reason}
 use Rattle.paje_defs.specs.Lines.{reason_at, taken, when}
 use Rattle.paje_defs.specs.Table.{grown}
@@ -110,7 +112,7 @@ grown_lacks entries (Some b) line lacks = lacks
 
 after_lacks : (entries : List (ℕ × Definition)) (begun : Option Begun) (line : Line)
     → reason entries begun line.words ≡ None → Lacks entries begun → Lacks entries (begun_after begun line)
-after_lacks entries begun line e lacks = by (begins line.words) (ends line.words) e
+after_lacks entries begun line e lacks = by (begins_definition line.words) (ends_definition line.words) e
   where
     by : (b f : Bool) → cond b (begin_reason entries begun line.words)
         (cond f (end_reason begun) (field_reason begun line.words)) ≡ None
@@ -120,7 +122,7 @@ after_lacks entries begun line e lacks = by (begins line.words) (ends line.words
     by false true e = tt
     by false false e = grown_lacks entries begun line lacks
 
-pub not_both : (words : List (List ℕ)) → begins words ≡ true → ends words ≡ true → ⊥
+pub not_both : (words : List (List ℕ)) → begins_definition words ≡ true → ends_definition words ≡ true → ⊥
 not_both words is other = by (slice_get words 0) is other
   where
     by : (word : Option (List ℕ)) → option_map_or (λ w. bytes_eq w (codes "EventDef")) word false ≡ true
@@ -133,7 +135,7 @@ not_both words is other = by (slice_get words 0) is other
 still_lacks : (entries : List (ℕ × Definition)) (line : Line) (old begun : Option Begun) (b e : Bool)
     → (b ≡ true → e ≡ true → ⊥)
     → Lacks entries (cond b (defined_by [] line) (cond e None begun))
-    → Lacks (entries ++ option_to_list (cond e (option_map entry_of old) None))
+    → Lacks (entries ++ option_to_list (cond e (option_map definition_entry old) None))
     (cond b (defined_by [] line) (cond e None begun))
 still_lacks entries line old begun b false apart lacks =
     subst (λ all. Lacks all (cond b (defined_by [] line) begun)) (sym (append-nil entries)) lacks
@@ -145,8 +147,9 @@ keeps_fresh before line none fresh =
     subst (λ begun. Lacks (complete_in (before ++ line ∷ [])) begun) (sym (begun-more before line))
     (subst (λ entries. Lacks entries (begun_after (begun_in before) line)) (sym (complete-more before line))
     (still_lacks (complete_in before) line (begun_in before)
-    (option_map (grown (option_to_list (field_of line.words))) (begun_in before)) (begins line.words)
-    (ends line.words)
+    (option_map (grown (option_to_list (field_of line.words))) (begun_in before))
+    (begins_definition line.words)
+    (ends_definition line.words)
     (not_both line.words) (after_lacks (complete_in before) (begun_in before) line none fresh)))
 
 pub taken_fresh : (lines : List Line) → IsFresh (taken lines)

@@ -17,7 +17,7 @@ use Rattle.paje_defs.specs.declared.event_fault.EventFault.TheVariants as faults
 use Rattle.paje_defs.specs.declared.fields.Fields.{Fields}
 use Rattle.paje_defs.specs.Numbers.{event_number_of, size_of}
 use Rattle.paje_defs.specs.Definition.{place_of}
-use Rattle.paje_defs.specs.Texts.{text_of}
+use Rattle.paje_defs.specs.Texts.{text_by_role}
 use Rattle.paje_defs.specs.Lines.{definition_of}
 
 -- the text of the field at a place: the first token is the number
@@ -80,8 +80,8 @@ event_numbered entries words None = Err faults.NoNumber
 event_numbered entries words (Some number) = event_under words (definition_of entries number)
 
 -- the definition and the time of an event line with these words, or why it is refused
-abbrev pub event_of : List (ℕ × Definition) → List (List ℕ) → Result Event EventFault
-event_of entries words = event_numbered entries words (option_and_then event_number_of (slice_get words 0))
+abbrev pub told_event : List (ℕ × Definition) → List (List ℕ) → Result Event EventFault
+told_event entries words = event_numbered entries words (option_and_then event_number_of (slice_get words 0))
 
 -- ---- what a call gives
 
@@ -89,7 +89,7 @@ event_of entries words = event_numbered entries words (option_and_then event_num
 pub record AreFields (words : List (List ℕ)) (d : Definition) (f : Fields) : Type 0 where
   pub kind : f.kind ≡ d.event
   pub size : f.size ≡ message_size d.event (size_in d words)
-  pub texts : (role : Role) → text_of f.texts role ≡ role_text d words role
+  pub texts : (role : Role) → text_by_role f.texts role ≡ role_text d words role
 
 -- the fields of the event that the line tells, or why it tells none
 abbrev pub Tells : List (List ℕ) → Result Fields EventFault → Result Event EventFault → Type 0
@@ -98,4 +98,5 @@ Tells words r wanted = MatchResult r (λ f. (e : Event) × (wanted ≡ Ok e) × 
 
 -- a role has a text exactly where the definition has a field of it
 abbrev pub RolesStand : Definition → Fields → Type 0
-RolesStand d f = (role : Role) → is_some (text_of f.texts role) ≡ is_some (place_of d.event d.fields role)
+RolesStand d f = (role : Role) → is_some (text_by_role f.texts role) ≡ is_some
+    (place_of d.event d.fields role)

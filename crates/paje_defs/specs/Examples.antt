@@ -1,4 +1,4 @@
--- Lines as their bytes, for the worked rows.
+-- Lines as their bytes, for the examples.
 use Rattle.std.specs.Prelude.{ℕ, ◌+◌, List, [], ◌∷◌, length, drop, filter, map, codes, nat_lt, Option, Ok}
 use Rattle.std.specs.Prelude.{Err, Result}
 use Rattle.std.specs.List.{slice_split}
@@ -12,15 +12,16 @@ use Rattle.paje_defs.specs.declared.field.Field.{Field}
 use Rattle.paje_defs.specs.declared.definition.Definition.{Definition}
 use Rattle.paje_defs.specs.declared.event_fault.EventFault.{EventFault}
 use Rattle.paje_defs.specs.Lines.{Definitions, Line, definitions_of_lines, first_refused}
-use Rattle.paje_defs.specs.Events.{Event, event_of, role_text, size_in, message_size}
+use Rattle.paje_defs.specs.Events.{Event, told_event, role_text, size_in, message_size}
 
 -- the words of a line without quotes
-abbrev pub words_in : List ℕ → List (List ℕ)
-words_in line = filter (λ word. nat_lt 0 (length word)) (slice_split is_blank (drop (tokens_start line) line))
+abbrev pub plain_words : List ℕ → List (List ℕ)
+plain_words line = filter (λ word. nat_lt 0 (length word))
+    (slice_split is_blank (drop (tokens_start line) line))
 
 abbrev pub numbered_from : ℕ → List (List ℕ) → List Line
 numbered_from n [] = []
-numbered_from n (line ∷ lines) = record { number = n; words = words_in line } ∷ numbered_from (n + 1) lines
+numbered_from n (line ∷ lines) = record { number = n; words = plain_words line } ∷ numbered_from (n + 1) lines
 
 -- these lines, numbered from 1
 abbrev pub numbered : List (List ℕ) → List Line
@@ -50,8 +51,8 @@ seen_of roles words (Ok e) = Ok (
 )
 
 abbrev pub told_of : List (List ℕ) → List Role → List ℕ → Result (ℕ × ℕ × List (Option (List ℕ))) EventFault
-told_of lines roles line = seen_of roles (words_in line)
-    (event_of (definitions_in lines).complete (words_in line))
+told_of lines roles line = seen_of roles (plain_words line)
+    (told_event (definitions_in lines).complete (plain_words line))
 
 -- two definitions of links in different orders, with an additional field; two of destroyed containers, one
 -- without their name; and one of state types, which has no time

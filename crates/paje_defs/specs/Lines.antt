@@ -33,12 +33,12 @@ abbrev pub opens_with : List ℕ → List (List ℕ) → Bool
 opens_with name words = option_map_or (λ word. bytes_eq word name) (slice_get words 0) false
 
 -- `%EventDef name number`
-abbrev pub begins : List (List ℕ) → Bool
-begins words = opens_with (codes "EventDef") words
+abbrev pub begins_definition : List (List ℕ) → Bool
+begins_definition words = opens_with (codes "EventDef") words
 
 -- `%EndEventDef`
-abbrev pub ends : List (List ℕ) → Bool
-ends words = opens_with (codes "EndEventDef") words
+abbrev pub ends_definition : List (List ℕ) → Bool
+ends_definition words = opens_with (codes "EndEventDef") words
 
 -- ---- what is written on a line that begins a definition, or adds a field
 
@@ -60,7 +60,7 @@ field_of words = option_map (λ kind. record { name = field_name words; kind = k
 -- ---- which definition is begun and not ended
 
 abbrev pub borders : Line → Bool
-borders line = begins line.words || ends line.words
+borders line = begins_definition line.words || ends_definition line.words
 
 -- a definition of the number and the event of a line, with these fields
 abbrev pub defined_by : List Field → Line → Option Begun
@@ -76,7 +76,7 @@ defined_by fields line =
     (option_zip (defined_number line.words) (defined_event line.words))
 
 abbrev pub begun_by : List Field → Line → Option Begun
-begun_by fields line = if begins line.words then defined_by fields line else None
+begun_by fields line = if begins_definition line.words then defined_by fields line else None
 
 -- that of the last line that begins or ends one, if it begins one; its fields are those of the lines behind
 -- it, in order
@@ -101,12 +101,12 @@ abbrev pub placed : List Line → List Placed
 placed lines = placed_behind [] lines
 
 -- its definition, by its number
-abbrev pub entry_of : Begun → ℕ × Definition
-entry_of b = (b.number, b.definition)
+abbrev pub definition_entry : Begun → ℕ × Definition
+definition_entry b = (b.number, b.definition)
 
 -- the definition that a line ends
 abbrev pub ended_at : Placed → Option (ℕ × Definition)
-ended_at p = if ends p.line.words then option_map entry_of (begun_in p.before) else None
+ended_at p = if ends_definition p.line.words then option_map definition_entry (begun_in p.before) else None
 
 -- the definitions that have an end, in the order of their ends
 abbrev pub complete_in : List Line → List (ℕ × Definition)
@@ -152,8 +152,8 @@ end_reason begun = first_of (
 
 -- by which definitions are complete, and which is begun
 abbrev pub reason : List (ℕ × Definition) → Option Begun → List (List ℕ) → Option DefFault
-reason complete begun words = if begins words then begin_reason complete begun words
-    else (if ends words then end_reason begun else field_reason begun words)
+reason complete begun words = if begins_definition words then begin_reason complete begun words
+    else (if ends_definition words then end_reason begun else field_reason begun words)
 
 -- by the lines before it
 abbrev pub reason_at : Placed → Option DefFault

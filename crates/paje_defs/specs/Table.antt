@@ -9,11 +9,12 @@ use Rattle.paje_defs.specs.declared.begun.Begun.{Begun}
 use Rattle.paje_defs.specs.declared.table.DefTable.{DefTable}
 use Rattle.paje_defs.specs.declared.def_fault.DefFault.{DefFault}
 use Rattle.paje_defs.specs.declared.def_fault.DefFault.TheVariants.{Memory}
-use Rattle.paje_defs.specs.Lines.{Definitions, Line, begins, defined_by, definitions_of_lines, ends, field_of}
+use Rattle.paje_defs.specs.Lines.{Definitions, Line, begins_definition, defined_by, definitions_of_lines}
+use Rattle.paje_defs.specs.Lines.{ends_definition, field_of}
 use Rattle.paje_defs.specs.Lines.{refusal}
 
-abbrev pub line_of : ℕ → List (List ℕ) → Line
-line_of n words = record { number = n; words = words }
+abbrev pub numbered_line : ℕ → List (List ℕ) → Line
+numbered_line n words = record { number = n; words = words }
 
 abbrev pub definitions_of : DefTable → Definitions
 definitions_of t = record { complete = t.complete.entries; begun = t.begun; fault = t.fault }
@@ -30,8 +31,8 @@ TakesNext before line new r = MatchResult r
 
 -- Where there is no reason against it, a step gives what is wanted, or memory ran out. A refusal changes
 -- nothing.
-abbrev pub Steps : {U S : Type 0} → S → S → Result U DefFault → Option DefFault → S → Type 0
-Steps old new r why wanted = MatchResult r
+abbrev pub TakesUnless : {U S : Type 0} → S → S → Result U DefFault → Option DefFault → S → Type 0
+TakesUnless old new r why wanted = MatchResult r
     (λ _. (why ≡ None) × (new ≡ wanted))
     (λ f. (new ≡ old) × (((f ≡ Memory) × (why ≡ None)) ⊎ (why ≡ Some f)))
 
@@ -65,5 +66,5 @@ after_end d = record { complete = with_ended d.complete d.begun; begun = None; f
 
 -- what a line that isn't refused makes of them
 abbrev pub after : Definitions → Line → Definitions
-after d line = if begins line.words then after_begin d line
-    else (if ends line.words then after_end d else after_field d line.words)
+after d line = if begins_definition line.words then after_begin d line
+    else (if ends_definition line.words then after_end d else after_field d line.words)

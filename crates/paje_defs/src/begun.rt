@@ -3,7 +3,7 @@ ghost use Rattle.std.specs.Option.{option_to_list};
 ghost use Rattle.paje_defs.specs.declared.def_fault.DefFault.TheVariants.{UnknownType};
 ghost use Rattle.paje_defs.specs.Words.{words_in};
 ghost use Rattle.paje_defs.specs.Lines.{field_of, field_type, when};
-ghost use Rattle.paje_defs.specs.Table.{Steps, grown};
+ghost use Rattle.paje_defs.specs.Table.{TakesUnless, grown};
 
 use crate::def_fault::DefFault;
 use crate::definition::Definition;
@@ -20,7 +20,7 @@ pub struct Begun {
 impl Begun {
     /// Adds the field of a line.
     pub(crate) fn add(&mut self, words: &Words<'_, '_>) -> Result<(), DefFault>
-        ensures { Steps self.old self.new result
+        ensures { TakesUnless self.old self.new result
             (when (is_none (field_type (words_in words.now))) UnknownType)
             (grown (option_to_list (field_of (words_in words.now))) self.old) }
     {

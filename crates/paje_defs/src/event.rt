@@ -2,11 +2,11 @@ ghost use Rattle.std.specs.Prelude.{◌≡◌, ◌<◌, length, IfOk, Ok};
 ghost use Rattle.std.specs.Option.{option_copied};
 ghost use Rattle.paje_lex.specs.LineGrammar.{StandIn};
 ghost use Rattle.paje_defs.specs.declared.role.Role.{Role};
-ghost use Rattle.paje_defs.specs.Words.{words_in, words_of};
-ghost use Rattle.paje_defs.specs.Events.{Event, RolesStand, Tells, event_of, message_size, role_text};
+ghost use Rattle.paje_defs.specs.Words.{words_in, words_at_tokens};
+ghost use Rattle.paje_defs.specs.Events.{Event, RolesStand, Tells, told_event, message_size, role_text};
 ghost use Rattle.paje_defs.specs.Events.{size_in, timed, time_of_text};
 ghost use Rattle.paje_defs.specs.Definition.{IsWhole};
-ghost use Rattle.paje_defs.specs.Texts.{text_of};
+ghost use Rattle.paje_defs.specs.Texts.{text_by_role};
 ghost use Rattle.paje_defs.specs.Table.{definitions_of};
 
 use crate::definition::Definition;
@@ -33,7 +33,7 @@ impl Definition {
     }
 
     fn texts<'a>(&self, words: &Words<'a, '_>) -> Texts<'a>
-        ensures { (role : Role) → text_of result role ≡ role_text self.now (words_in words.now) role }
+        ensures { (role : Role) → text_by_role result role ≡ role_text self.now (words_in words.now) role }
     {
         Texts {
             time: self.text(words, Role::Time),
@@ -110,8 +110,8 @@ impl Definition {
 impl DefTable {
     fn read_event<'a>(&self, line: &'a [u8], tokens: &[Token]) -> Result<Fields<'a>, EventFault>
         requires { StandIn (length line.now) tokens.now }
-        ensures { Tells (words_of line.now tokens.now) result
-            (event_of (definitions_of self.now).complete (words_of line.now tokens.now)) }
+        ensures { Tells (words_at_tokens line.now tokens.now) result
+            (told_event (definitions_of self.now).complete (words_at_tokens line.now tokens.now)) }
     {
         let words = Words::new(line, tokens);
         let Some(first) = words.get(0) else {
@@ -137,11 +137,11 @@ impl DefTable {
     /// In this order: `NoNumber`, `UnknownNumber`, `TooFew`, `Date`.
     pub fn event<'a>(&self, line: &'a [u8], tokens: &[Token]) -> Result<Fields<'a>, EventFault>
         requires { StandIn (length line.now) tokens.now }
-        ensures exact { Tells (words_of line.now tokens.now) result
-            (event_of (definitions_of self.now).complete (words_of line.now tokens.now)) }
+        ensures exact { Tells (words_at_tokens line.now tokens.now) result
+            (told_event (definitions_of self.now).complete (words_at_tokens line.now tokens.now)) }
         // A role has a text exactly where the definition of the line has a field of it.
-        ensures stand { (event : Event) → event_of (definitions_of self.now).complete
-            (words_of line.now tokens.now) ≡ Ok event
+        ensures stand { (event : Event) → told_event (definitions_of self.now).complete
+            (words_at_tokens line.now tokens.now) ≡ Ok event
             → IfOk result (RolesStand event.definition) }
     {
         self.read_event(line, tokens)

@@ -1,4 +1,4 @@
-//! Worked rows: what the definitions give on lines whose meaning is known.
+//! What the definitions give on lines whose meaning is known.
 
 ghost use Rattle.std.specs.Prelude.{◌≡◌, [], ◌∷◌, ◌++◌, map, codes, Some, None, Ok, Err};
 ghost use Rattle.paje_defs.specs.EventName.{all_events, event_name_of, event_text};
@@ -183,7 +183,8 @@ pub fn order_examples()
     ensures second_line { (definitions_in (codes "%EventDef PajeNewEvent 1" ∷ codes "% Time date"
         ∷ codes "%EndEventDef" ∷ codes "%EventDef PajeNewEvent 2" ∷ codes "% Time date" ∷ codes "%EndEventDef"
         ∷ codes "%EventDef PajePopState 2" ∷ [])).fault ≡ Some (DefFault.DoubleNumber 4) }
-    ensures shape_before_nested { (definitions_in (codes "%EventDef PajePopState 1" ∷ codes "%EventDef PajePopState x" ∷ [])).fault ≡
+    ensures shape_before_nested { (definitions_in (codes "%EventDef PajePopState 1"
+        ∷ codes "%EventDef PajePopState x" ∷ [])).fault ≡
         Some DefFault.Shape }
     ensures shape_before_name { (definitions_in (codes "%EventDef PajeStrange x" ∷ [])).fault ≡ Some
         DefFault.Shape }

@@ -1,6 +1,6 @@
 ghost use Rattle.std.specs.Prelude.{◌≡◌};
 ghost use Rattle.std.specs.Option.{option_copied};
-ghost use Rattle.paje_defs.specs.Texts.{HasNeeded, HasNeeded-prop, text_of};
+ghost use Rattle.paje_defs.specs.Texts.{HasNeeded, HasNeeded-prop, text_by_role};
 
 use crate::event_name::EventName;
 use crate::role::Role;
@@ -41,7 +41,7 @@ impl<'a> Fields<'a> {
 
     /// The bytes of a role's field in the line, `None` exactly where its definition has no field of the role.
     pub fn text(&self, role: Role) -> Option<&'a [u8]>
-        ensures { option_copied result ≡ text_of self.now.texts role }
+        ensures { option_copied result ≡ text_by_role self.now.texts role }
     {
         self.texts.get(role)
     }

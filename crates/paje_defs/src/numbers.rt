@@ -1,38 +1,40 @@
-ghost use Rattle.std.specs.Prelude.{◌≡◌, ◌≤◌};
-ghost use Rattle.paje_defs.specs.Numbers.{decimal_of, event_number_of, plain_size, size_of};
+ghost use Rattle.std.specs.Prelude.{◌≡◌};
+ghost use Rattle.paje_defs.specs.Numbers.{event_number_of, plain_size, short_decimal, size_of};
+
+use decimal_digits::decimal;
+
+/// The most digits of an event's number.
+const EVENT_NUMBER_DIGITS: usize = 10;
+
+/// The most digits of a size.
+const SIZE_DIGITS: usize = 19;
 
 /// The number of a text of decimal digits, of which it has one at least and `most` at most.
-fn decimal(text: &[u8], most: usize) -> Option<u64>
-    requires { most ≤ 19 }
-    ensures { result ≡ decimal_of most text.now }
+fn short_decimal(text: &[u8], most: usize) -> Option<u64>
+    ensures { result ≡ short_decimal most text.now }
 {
-    if text.is_empty() || text.len() > most {
-        return None;
+    if text.len() > most {
+        None
+    } else {
+        decimal(text)
     }
-    let mut value: u64 = 0;
-    for byte in text {
-        if !byte.is_ascii_digit() {
-            return None;
-        }
-        value = 10 * value + u64::from(*byte - b'0');
-    }
-    Some(value)
 }
 
 /// The number of a definition: one to ten digits, below 2^32.
 pub fn event_number(text: &[u8]) -> Option<u32>
     ensures { result ≡ event_number_of text.now }
 {
-    match decimal(text, 10) {
+    match short_decimal(text, EVENT_NUMBER_DIGITS) {
         Some(number) if number < 4_294_967_296 => Some(number as u32),
         _ => None,
     }
 }
 
+/// A size without a sign.
 fn unsigned_size(text: &[u8]) -> u64
     ensures { result ≡ plain_size text.now }
 {
-    match decimal(text, 19) {
+    match short_decimal(text, SIZE_DIGITS) {
         Some(number) if number < 9_223_372_036_854_775_808 => number,
         _ => 0,
     }

@@ -24,11 +24,12 @@ pub struct DefTable {
 }
 
 impl DefTable {
-    ghost use Rattle.paje_defs.specs.Words.{words_in, words_of};
+    ghost use Rattle.paje_defs.specs.Words.{words_in, words_at_tokens};
     ghost use Rattle.paje_defs.specs.Lines.{Line, begin_reason, definition_of, definitions_of_lines};
     ghost use Rattle.paje_defs.specs.Lines.{end_reason, field_reason, first_line, reason};
-    ghost use Rattle.paje_defs.specs.Table.{Steps, TakesNext, after, after_begin, after_end, after_field};
-    ghost use Rattle.paje_defs.specs.Table.{definitions_of, line_of};
+    ghost use Rattle.paje_defs.specs.Table.{TakesUnless, TakesNext, after, after_begin, after_end};
+    ghost use Rattle.paje_defs.specs.Table.{after_field};
+    ghost use Rattle.paje_defs.specs.Table.{definitions_of, numbered_line};
 
     /// No definitions. It takes no memory.
     #[tactic(auto, unfolding(crate::specs::Definition::AreWhole))]
@@ -67,10 +68,10 @@ impl DefTable {
 
     /// `%EventDef name number`
     fn begin(&mut self, n: u32, words: &Words<'_, '_>) -> Result<(), DefFault>
-        ensures { Steps (definitions_of self.old) (definitions_of self.new) result
+        ensures { TakesUnless (definitions_of self.old) (definitions_of self.new) result
             (begin_reason (definitions_of self.old).complete (definitions_of self.old).begun
             (words_in words.now))
-            (after_begin (definitions_of self.old) (line_of n (words_in words.now))) }
+            (after_begin (definitions_of self.old) (numbered_line n (words_in words.now))) }
     {
         let Some(number) = words.defined_number() else {
             return Err(DefFault::Shape);
@@ -97,7 +98,7 @@ impl DefTable {
 
     /// `% field type`
     fn field(&mut self, words: &Words<'_, '_>) -> Result<(), DefFault>
-        ensures { Steps (definitions_of self.old) (definitions_of self.new) result
+        ensures { TakesUnless (definitions_of self.old) (definitions_of self.new) result
             (field_reason (definitions_of self.old).begun (words_in words.now))
             (after_field (definitions_of self.old) (words_in words.now)) }
     {
@@ -114,7 +115,7 @@ impl DefTable {
 
     /// `%EndEventDef`
     fn end(&mut self) -> Result<(), DefFault>
-        ensures { Steps (definitions_of self.old) (definitions_of self.new) result
+        ensures { TakesUnless (definitions_of self.old) (definitions_of self.new) result
             (end_reason (definitions_of self.old).begun) (after_end (definitions_of self.old)) }
     {
         let Some(begun) = self.begun.take() else {
@@ -138,10 +139,10 @@ impl DefTable {
     /// A definition line, as if none had been refused.
     fn step(&mut self, n: u32, line: &[u8], tokens: &[Token]) -> Result<(), DefFault>
         requires { StandIn (length line.now) tokens.now }
-        ensures { Steps (definitions_of self.old) (definitions_of self.new) result
+        ensures { TakesUnless (definitions_of self.old) (definitions_of self.new) result
             (reason (definitions_of self.old).complete (definitions_of self.old).begun
-            (words_of line.now tokens.now))
-            (after (definitions_of self.old) (line_of n (words_of line.now tokens.now))) }
+            (words_at_tokens line.now tokens.now))
+            (after (definitions_of self.old) (numbered_line n (words_at_tokens line.now tokens.now))) }
     {
         let words = Words::new(line, tokens);
         if words.begins() {
@@ -168,7 +169,8 @@ impl DefTable {
         requires { StandIn (length line.now) tokens.now }
         // The table tells what its lines so far make known.
         ensures so_far { (before : List Line) → definitions_of self.old ≡ definitions_of_lines before
-            → TakesNext before (line_of n (words_of line.now tokens.now)) (definitions_of self.new) result }
+            → TakesNext before (numbered_line n (words_at_tokens line.now tokens.now))
+            (definitions_of self.new) result }
         ensures refused { (fault : DefFault) → (definitions_of self.old).fault ≡ Some fault
             → (result ≡ Err fault) × (definitions_of self.new ≡ definitions_of self.old) }
     {

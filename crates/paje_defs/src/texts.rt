@@ -1,6 +1,6 @@
 ghost use Rattle.std.specs.Prelude.{◌≡◌};
 ghost use Rattle.std.specs.Option.{option_copied};
-ghost use Rattle.paje_defs.specs.Texts.{text_of};
+ghost use Rattle.paje_defs.specs.Texts.{text_by_role};
 
 use crate::role::Role;
 
@@ -24,7 +24,7 @@ pub struct Texts<'a> {
 impl<'a> Texts<'a> {
     /// The bytes of a role's field, where the definition has one.
     pub(crate) fn get(&self, role: Role) -> Option<&'a [u8]>
-        ensures { option_copied result ≡ text_of self.now role }
+        ensures { option_copied result ≡ text_by_role self.now role }
     {
         match role {
             Role::Time => self.time,

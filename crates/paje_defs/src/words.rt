@@ -29,14 +29,15 @@ fn end_text() -> &'static [u8]
 }
 
 impl<'a, 't> Words<'a, 't> {
-    ghost use Rattle.paje_defs.specs.Words.{words_in, words_of};
-    ghost use Rattle.paje_defs.specs.Lines.{begins, defined_event, defined_number, ends, field_name};
+    ghost use Rattle.paje_defs.specs.Words.{words_in, words_at_tokens};
+    ghost use Rattle.paje_defs.specs.Lines.{begins_definition, defined_event, defined_number};
+    ghost use Rattle.paje_defs.specs.Lines.{ends_definition, field_name};
     ghost use Rattle.paje_defs.specs.Lines.{field_type, opens_with};
 
     /// The words of a line, by the tokens that it has.
     pub fn new(line: &'a [u8], tokens: &'t [Token]) -> Words<'a, 't>
         requires { StandIn (length line.now) tokens.now }
-        ensures { words_in result ≡ words_of line.now tokens.now }
+        ensures { words_in result ≡ words_at_tokens line.now tokens.now }
     {
         Words { line, tokens }
     }
@@ -70,14 +71,14 @@ impl<'a, 't> Words<'a, 't> {
 
     /// Whether they begin a definition.
     pub fn begins(&self) -> bool
-        ensures { result ≡ begins (words_in self.now) }
+        ensures { result ≡ begins_definition (words_in self.now) }
     {
         self.opens_with(begin_text())
     }
 
     /// Whether they end a definition.
     pub fn ends(&self) -> bool
-        ensures { result ≡ ends (words_in self.now) }
+        ensures { result ≡ ends_definition (words_in self.now) }
     {
         self.opens_with(end_text())
     }

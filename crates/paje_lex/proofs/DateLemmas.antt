@@ -12,7 +12,7 @@ use Rattle.paje_lex.specs.declared.dates.Mantissa.{Mantissa}
 use Rattle.paje_lex.specs.declared.date_fault.DateFault.{DateFault}
 use Rattle.paje_lex.specs.declared.date_fault.DateFault.TheVariants.{Shape, Negative}
 use Rattle.paje_lex.specs.DateGrammar.{Date, Exponent, is_minus, tens_of, tens_up, tens_down}
-use Rattle.paje_lex.specs.DateGrammar.{within_limit}
+use Rattle.paje_lex.specs.DateGrammar.{whole_nanoseconds}
 use Rattle.paje_lex.specs.DateReading.{are_exponent_digits, sign_len, exponent_behind, exponent_of}
 use Rattle.paje_lex.specs.DateReading.{is_exponent_letter, behind_digits, body_of, digits_at, places_at}
 use Rattle.paje_lex.specs.DateReading.{IsRead, unsigned_of, parts_of, date_of, meaning_or_shape}
@@ -111,7 +111,7 @@ date_without_digits text e = rw e refl
 abbrev pub meaning_at : List ℕ → ℕ → ℕ → Result ℕ DateFault
 meaning_at text up down = cond (is_minus (take (sign_len text) text)
     && ltb 0 (digits_value 10 (digits_at (body_of text)))) (Err Negative)
-    (within_limit (digits_value 10 (digits_at (body_of text)) * 10 ^ (9 + up))
+    (whole_nanoseconds (digits_value 10 (digits_at (body_of text)) * 10 ^ (9 + up))
     (10 ^ (places_at (body_of text) + down)))
 
 abbrev pair_in : Option (ℕ × ℕ) → ℕ × ℕ
@@ -143,7 +143,7 @@ negative_date text up down minus some =
 
 pub plain_date : (text : List ℕ) (up down : ℕ) → (is_minus (take (sign_len text) text) ≡ false)
     ⊎ (digits_value 10 (digits_at (body_of text)) ≡ 0)
-    → meaning_at text up down ≡ within_limit (digits_value 10 (digits_at (body_of text)) * 10 ^ (9 + up))
+    → meaning_at text up down ≡ whole_nanoseconds (digits_value 10 (digits_at (body_of text)) * 10 ^ (9 + up))
     (10 ^ (places_at (body_of text) + down))
 plain_date text up down (inl plus) = rw plus refl
 plain_date text up down (inr zero') = rw (le-ltb 0 (digits_value 10 (digits_at (body_of text))) (omega arith))

@@ -10,7 +10,7 @@ use Rattle.paje_lex.specs.declared.date_fault.DateFault.{DateFault}
 use Rattle.paje_lex.specs.declared.date_fault.DateFault.TheVariants.{Big}
 use Rattle.trace_base.specs.declared.limits.TheConstants.{MAX_TIME}
 use Rattle.decimal_digits.proofs.HeldDigits.{ten_pow_pos}
-use Rattle.paje_lex.specs.DateGrammar.{within_limit}
+use Rattle.paje_lex.specs.DateGrammar.{whole_nanoseconds}
 
 -- a quotient is the number whose multiples of the divisor are on both sides
 pub quotient : (a b q : ℕ) → q * b ≤ a → a < (q + 1) * b → a / b ≡ q
@@ -20,7 +20,7 @@ quotient a b q low high =
     ap (λ x. x / b) e ∙ div-mul-add q b (a - q * b) small
 
 pub within : (above below q : ℕ) → q * below ≤ above → above < (q + 1) * below → above ≤ MAX_TIME * below
-    → within_limit above below ≡ Ok q
+    → whole_nanoseconds above below ≡ Ok q
 within above below q low high fits =
     rw (le-ltb (MAX_TIME * below) above fits) (ap Ok (quotient above below q low high))
 
@@ -41,7 +41,7 @@ raised_above head places some many =
 
 -- the digits behind the head, and some of its own, are dropped
 pub lowered_by : (n head low p q u : ℕ) → n ≡ head * q + low → low < q → head < 2 ^ 64 → 10 ≤ p → 0 < u
-    → within_limit (n * u) (p * (q * u)) ≡ Ok (head / p)
+    → whole_nanoseconds (n * u) (p * (q * u)) ≡ Ok (head / p)
 lowered_by n head low p q u e below small many some =
     let t : ℕ = head / p in
     let under : t * p ≤ head = omega (arith, div-add-mod' head p) in
@@ -67,7 +67,7 @@ lowered_by n head low p q u e below small many some =
     regrouped_fits n head p q u a b = omega arith
 
 pub lowered_limit : (n head more low up down : ℕ) → n ≡ head * 10 ^ more + low → low < 10 ^ more
-    → head < 2 ^ 64 → more + up < down → within_limit (n * 10 ^ up) (10 ^ down) ≡ Ok
+    → head < 2 ^ 64 → more + up < down → whole_nanoseconds (n * 10 ^ up) (10 ^ down) ≡ Ok
     (head / 10 ^ (down - (more + up)))
 lowered_limit n head more low up down e below small far =
     let places : ℕ = down - (more + up) in
@@ -75,13 +75,14 @@ lowered_limit n head more low up down e below small far =
     let ten : 10 ≤ 10 ^ places = pow-le-pow_right {n = 10} (omega arith) {i = 1} {j = places} (omega arith) in
     let split : 10 ^ down ≡ 10 ^ places * (10 ^ more * 10 ^ up) = ap (λ k. 10 ^ k) whole ∙
     (pow-add 10 places (more + up) ∙ ap (λ x. 10 ^ places * x) (pow-add 10 more up)) in
-    ap (within_limit (n * 10 ^ up)) split ∙ lowered_by n head low (10 ^ places) (10 ^ more) (10 ^ up) e below
+    ap (whole_nanoseconds (n * 10 ^ up)) split ∙ lowered_by n head low (10 ^ places) (10 ^ more)
+    (10 ^ up) e below
     small ten (ten_pow_pos up)
 
 -- the head with zeros behind it is the time
 pub raised_ok : (n head low q u s d : ℕ) → n ≡ head * q + low → low < q → q * u ≡ s * d → 0 < u → (s ≡ 1)
     ⊎ (low ≡ 0) → (head * s < MAX_TIME) ⊎ ((head * s ≡ MAX_TIME) × (low ≡ 0))
-    → within_limit (n * u) d ≡ Ok (head * s)
+    → whole_nanoseconds (n * u) d ≡ Ok (head * s)
 raised_ok n head low q u s d e below turned some exact limit =
     let parts : n * u ≡ head * s * d + low * u = split n head low q u s d e turned in
     let rest : low * u < d = behind low q u s d below turned some exact in
@@ -116,7 +117,7 @@ raised_ok n head low q u s d e below turned some exact limit =
         omega arith
 
 pub raised_big : (n head low q u s d : ℕ) → n ≡ head * q + low → q * u ≡ s * d → 0 < u → 0 < d
-    → (MAX_TIME < head * s) ⊎ ((head * s ≡ MAX_TIME) × (0 < low)) → within_limit (n * u) d ≡ Err Big
+    → (MAX_TIME < head * s) ⊎ ((head * s ≡ MAX_TIME) × (0 < low)) → whole_nanoseconds (n * u) d ≡ Err Big
 raised_big n head low q u s d e turned some pos above =
     rw (lt-ltb (MAX_TIME * d) (n * u) (over n u low d (head * s) (split n head low q u s d e turned) some pos
     above)) refl
@@ -168,7 +169,7 @@ pub scaled_up : (r : Result ℕ DateFault) (n head more low up down time : ℕ) 
     → down ≤ more + up → time ≡ head * 10 ^ (more + up - down)
     → IfOk r (λ t. (t ≡ time) × ((time < MAX_TIME) ⊎ ((time ≡ MAX_TIME) × (tail ≡ false))))
     → IfErr r (λ e. (e ≡ Big) × ((MAX_TIME < time) ⊎ ((time ≡ MAX_TIME) × (tail ≡ true))))
-    → r ≡ within_limit (n * 10 ^ up) (10 ^ down)
+    → r ≡ whole_nanoseconds (n * 10 ^ up) (10 ^ down)
 scaled_up (Ok t) n head more low up down time tail e below tells full near is ok err =
     ap Ok (ok.0 ∙ is) ∙ sym (raised_ok n head low (10 ^ more) (10 ^ up) (10 ^ (more + up - down)) (10 ^ down)
     e below (turned_powers more up down near) (ten_pow_pos up)

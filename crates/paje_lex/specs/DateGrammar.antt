@@ -94,10 +94,10 @@ abbrev pub denominator : Date → ℕ
 denominator d = 10 ^ (length (unwrap_or d.fraction []) + tens_down d.exponent)
 
 -- the fraction, its part behind the point dropped, unless it is above the greatest time
-abbrev pub within_limit : ℕ → ℕ → Result ℕ DateFault
-within_limit above below = if nat_lt (MAX_TIME * below) above then Err Big else Ok (above / below)
+abbrev pub whole_nanoseconds : ℕ → ℕ → Result ℕ DateFault
+whole_nanoseconds above below = if nat_lt (MAX_TIME * below) above then Err Big else Ok (above / below)
 
 -- A date below 0 is refused, whatever it is rounded to; -0 is 0.
 abbrev pub meaning : Date → Result ℕ DateFault
 meaning d = if (is_minus d.sign && nat_lt 0 (digits_value 10 (date_digits d))) then Err Negative
-    else within_limit (numerator d) (denominator d)
+    else whole_nanoseconds (numerator d) (denominator d)

@@ -28,7 +28,8 @@ pub fn date_examples()
 
 /// Lines and where their tokens stand.
 pub fn token_examples()
-    ensures spaced { Lexes (codes "4 0.1\tS  p0 ") (Ok (token 0 1 ∷ token 2 5 ∷ token 6 7 ∷ token 9 11 ∷ [])) }
+    ensures spaced { Lexes (codes "4 0.1\tS  p0 ") (Ok (token 0 1 ∷ token 2 5 ∷ token 6 7 ∷ token 9 11
+        ∷ [])) }
     ensures definition { Lexes (codes " \t%EventDef X 4") (Ok (token 3 11 ∷ token 12 13 ∷ token 14 15
         ∷ [])) }
     ensures field { Lexes (codes "% Time date") (Ok (token 2 6 ∷ token 7 11 ∷ [])) }

@@ -2,7 +2,7 @@ ghost use Rattle.std.specs.Prelude.{◌≡◌, ℕ, ◌+◌, ◌*◌, ◌/◌, �
 ghost use Rattle.std.specs.Prelude.{IfOk, IfErr, MatchOption};
 ghost use Rattle.std.specs.Str.Parse.{digits_value};
 ghost use Rattle.decimal_digits.specs.Held.{Holds};
-ghost use Rattle.paje_lex.specs.DateGrammar.{within_limit};
+ghost use Rattle.paje_lex.specs.DateGrammar.{whole_nanoseconds};
 
 use crate::date_fault::DateFault;
 use decimal_digits::Digits;
@@ -13,7 +13,7 @@ use trace_base::MAX_TIME;
 pub fn scaled(digits: Digits, up: usize, down: usize) -> Result<u64, DateFault>
     requires { digits.more + up < 2 ^ 64 }
     ensures { (bytes : List ℕ) → Holds digits bytes
-        → result ≡ within_limit (digits_value 10 bytes * 10 ^ up) (10 ^ down) }
+        → result ≡ whole_nanoseconds (digits_value 10 bytes * 10 ^ up) (10 ^ down) }
 {
     let Digits { head, more, tail } = digits;
     if more + up < down {

@@ -2,7 +2,7 @@ use Rattle.std.proofs.Common.{◌≡◌, ◌+◌, ◌*◌, ◌^◌, ◌⊎◌, i
 use Rattle.std.proofs.lemmas.Bool.{true≢false}
 use Rattle.std.specs.Option.{option_map}
 use Rattle.std.specs.Str.Parse.{digits_value}
-use Rattle.paje_lex.specs.DateGrammar.{tens_of, is_minus, within_limit}
+use Rattle.paje_lex.specs.DateGrammar.{tens_of, is_minus, whole_nanoseconds}
 use Rattle.paje_lex.specs.DateReading.{sign_len, digits_at, body_of, exponent_of}
 use Rattle.paje_lex.proofs.DateLemmas.{date_without_exponent, date_without_digits, date_with}
 use Rattle.paje_lex.proofs.DateLemmas.{negative_date, plain_date}
@@ -46,7 +46,7 @@ returns c =
       | else-is_negative-via-else-is_negative w ↦ inl (sym c.is_negative.ensures ∙ w.if-is_negative.false)
     ] in
     c.scaled.ensures _ read.digits
-    ∙ (ap (λ n. within_limit (number * 10 ^ (9 + tens.up)) (10 ^ (n + tens.down))) read.places
+    ∙ (ap (λ n. whole_nanoseconds (number * 10 ^ (9 + tens.up)) (10 ^ (n + tens.down))) read.places
     ∙ (sym (plain_date text tens.up tens.down plain) ∙ date_with text tens.up tens.down
     (c.in-Some.ensures.tens ∙ ap (λ x. option_map tens_of (exponent_of x)) read.rest)
     (omega (arith, read.count, c.if-mantissa-eq0.false))))
