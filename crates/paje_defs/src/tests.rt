@@ -153,3 +153,95 @@ fn size_of_a_message(rt: HostRuntime) -> Result<(), Fail> {
     assert_eq!(rt; from, b"p0".as_slice());
     Ok(())
 }
+
+/// The event 4 with twenty fields: the four that a push needs, and sixteen more.
+fn twenty_fields(alloc: Global) -> Result<DefTable, Fail> {
+    let mut table = table_of(
+        alloc,
+        &[
+            b"%EventDef PajePushState 4",
+            b"% Time date",
+            b"% Type string",
+            b"% Container string",
+            b"% Value string",
+        ],
+    )?;
+    for n in 6..22u32 {
+        if let Some(fault) = refusal(alloc, &mut table, n, b"% Extra string")? {
+            return Err(Fail::from(fault));
+        }
+    }
+    match refusal(alloc, &mut table, 22, b"%EndEventDef")? {
+        Some(fault) => Err(Fail::from(fault)),
+        None => Ok(table),
+    }
+}
+
+#[test]
+fn definition_of_twenty_fields(rt: HostRuntime) -> Result<(), Fail> {
+    let alloc = rt.alloc();
+    let table = twenty_fields(alloc)?;
+    assert!(rt; !table.is_inside());
+    let line = b"4 0.5 S p0 f 5 6 7 8 9 10 11 12 13 14 15 16 17 18 19";
+    let read = tokens(alloc, line)?;
+    let refused = table.event(line, read.as_slice()).err();
+    assert_eq!(rt; refused, Some(EventFault::TooFew));
+    let line = b"4 0.5 S p0 f 5 6 7 8 9 10 11 12 13 14 15 16 17 18 19 20";
+    let read = tokens(alloc, line)?;
+    let fields = table.event(line, read.as_slice())?;
+    assert_eq!(rt; fields.time(), 500_000_000);
+    Ok(())
+}
+
+#[test]
+fn event_line_of_many_tokens(rt: HostRuntime) -> Result<(), Fail> {
+    let alloc = rt.alloc();
+    let table = twenty_fields(alloc)?;
+    let mut line = "4 0.5 S p0 f".to_string(alloc)?;
+    for _ in 0..195u32 {
+        line.push_str(" x")?;
+    }
+    let line = line.as_str().as_bytes();
+    if line.len() > MAX_TRACE_LINE {
+        return Err(Fail::from("a long line"));
+    }
+    let read = tokens(alloc, line)?;
+    assert_eq!(rt; read.len(), 200);
+    let fields = table.event(line, read.as_slice())?;
+    assert_eq!(rt; fields.time(), 500_000_000);
+    let value = fields.text(Role::Value).ok_or("no value")?;
+    assert_eq!(rt; value, b"f".as_slice());
+    Ok(())
+}
+
+#[test]
+fn texts_of_definition_faults(rt: HostRuntime) -> Result<(), Fail> {
+    let text = format!(in rt.alloc(); "{}", DefFault::Shape)?;
+    assert_eq!(rt; text.as_str(), "no definition line");
+    let text = format!(in rt.alloc(); "{}", DefFault::Nested)?;
+    assert_eq!(rt; text.as_str(), "a definition inside another");
+    let text = format!(in rt.alloc(); "{}", DefFault::UnknownName)?;
+    assert_eq!(rt; text.as_str(), "an unknown event name");
+    let text = format!(in rt.alloc(); "{}", DefFault::DoubleNumber(12))?;
+    assert_eq!(rt; text.as_str(), "the number was defined on line 12");
+    let text = format!(in rt.alloc(); "{}", DefFault::UnknownType)?;
+    assert_eq!(rt; text.as_str(), "an unknown type");
+    let text = format!(in rt.alloc(); "{}", DefFault::MissingField(Role::Holder))?;
+    assert_eq!(rt; text.as_str(), "no field of the role Holder");
+    let text = format!(in rt.alloc(); "{}", DefFault::Memory)?;
+    assert_eq!(rt; text.as_str(), "out of memory");
+    Ok(())
+}
+
+#[test]
+fn texts_of_event_faults(rt: HostRuntime) -> Result<(), Fail> {
+    let text = format!(in rt.alloc(); "{}", EventFault::NoNumber)?;
+    assert_eq!(rt; text.as_str(), "no event number");
+    let text = format!(in rt.alloc(); "{}", EventFault::UnknownNumber)?;
+    assert_eq!(rt; text.as_str(), "an unknown event number");
+    let text = format!(in rt.alloc(); "{}", EventFault::TooFew)?;
+    assert_eq!(rt; text.as_str(), "too few fields");
+    let text = format!(in rt.alloc(); "{}", EventFault::Date(DateFault::Negative))?;
+    assert_eq!(rt; text.as_str(), "a date below 0");
+    Ok(())
+}

@@ -1,4 +1,5 @@
 use crate::{DateFault, LexFault, Token, date, is_definition, is_skipped, tokens};
+use std::alloc::Global;
 use std::test::Fail;
 use trace_base::MAX_TRACE_LINE;
 
@@ -43,6 +44,65 @@ fn longest_line(rt: HostRuntime) -> Result<(), Fail> {
     let read = tokens(rt.alloc(), line.as_slice())?;
     assert_eq!(rt; read.len(), 32_768);
     assert_eq!(rt; read.get(32_767).copied(), Some(token(65_535, 65_536)));
+    Ok(())
+}
+
+#[test]
+fn line_of_many_tokens(rt: HostRuntime) -> Result<(), Fail> {
+    let mut line = vec![in rt.alloc(); b'7'; 399]?;
+    for at in 0..199usize {
+        if 2 * at + 1 < line.len() {
+            line[2 * at + 1] = b' ';
+        }
+    }
+    assert_eq!(rt; line.len(), 399);
+    let read = tokens(rt.alloc(), line.as_slice())?;
+    assert_eq!(rt; read.len(), 200);
+    assert_eq!(rt; read.get(199).copied(), Some(token(398, 399)));
+    Ok(())
+}
+
+/// What is told of a line of 5,000 bytes, all of them `a` but the one at the place 4,000.
+fn fault_of_long_line(alloc: Global, byte: u8) -> Result<Option<LexFault>, Fail> {
+    let mut line = vec![in alloc; b'a'; 5_000]?;
+    if line.len() != 5_000 {
+        return Err(Fail::from("another length"));
+    }
+    line[3_999] = b' ';
+    line[4_000] = byte;
+    Ok(tokens(alloc, line.as_slice()).err())
+}
+
+#[test]
+fn long_lines_with_faults(rt: HostRuntime) -> Result<(), Fail> {
+    let fault = fault_of_long_line(rt.alloc(), 0xff)?;
+    assert_eq!(rt; fault, Some(LexFault::NotText(4_000)));
+    let fault = fault_of_long_line(rt.alloc(), b'"')?;
+    assert_eq!(rt; fault, Some(LexFault::OpenQuote(4_000)));
+    let fault = fault_of_long_line(rt.alloc(), b'b')?;
+    assert_eq!(rt; fault, None);
+    Ok(())
+}
+
+#[test]
+fn texts_of_line_faults(rt: HostRuntime) -> Result<(), Fail> {
+    let text = format!(in rt.alloc(); "{}", LexFault::NotText(7))?;
+    assert_eq!(rt; text.as_str(), "no UTF-8 from byte 7 on");
+    let text = format!(in rt.alloc(); "{}", LexFault::OpenQuote(12))?;
+    assert_eq!(rt; text.as_str(), "the quote at byte 12 isn't closed");
+    let text = format!(in rt.alloc(); "{}", LexFault::Memory)?;
+    assert_eq!(rt; text.as_str(), "out of memory");
+    Ok(())
+}
+
+#[test]
+fn texts_of_date_faults(rt: HostRuntime) -> Result<(), Fail> {
+    let text = format!(in rt.alloc(); "{}", DateFault::Shape)?;
+    assert_eq!(rt; text.as_str(), "not a date");
+    let text = format!(in rt.alloc(); "{}", DateFault::Negative)?;
+    assert_eq!(rt; text.as_str(), "a date below 0");
+    let text = format!(in rt.alloc(); "{}", DateFault::Big)?;
+    assert_eq!(rt; text.as_str(), "a date above 2^62 nanoseconds");
     Ok(())
 }
 
