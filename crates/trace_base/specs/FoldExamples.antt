@@ -17,6 +17,15 @@ both_ways = record {
       ∷ Enter 2 7 ∷ Leave 8 ∷ Leave 10 ∷ [];
 }
 
+-- f calls h, which calls g, and then g: the sibling of the lesser number is called last
+abbrev pub siblings : TrackStream
+siblings = record {
+  start = 0;
+  end = 20;
+  events = Enter 1 0 ∷ Enter 3 1 ∷ Enter 2 2 ∷ Leave 5 ∷ Leave 6
+      ∷ Enter 2 6 ∷ Leave 9 ∷ Leave 12 ∷ [];
+}
+
 -- a start of a message with the one key of its link type
 abbrev pub start_link : ℕ → ℕ → ℕ → ℕ → ℕ → LinkEvent
 start_link kind key container time size = record {

@@ -1,10 +1,11 @@
 -- The communication matrix of messages over a half-open interval.
-use Rattle.std.specs.Prelude.{ℕ, ◌-◌, Bool, ◌&&◌, ◌==◌, nat_lt, max, List, length, map, filter, fold}
+use Rattle.std.specs.Prelude.{◌≡◌, ℕ, ◌-◌, Bool, ◌&&◌, ◌==◌, nat_lt, max, List, length, map, filter, fold}
 use Rattle.std.specs.Prelude.{sum_by, count_by}
+use Rattle.std.specs.List.{Contains}
 use Rattle.std.specs.Ordering.{nat_cmp, ordering_then}
 use Rattle.std.specs.declared.cmp.Ordering.{Ordering}
 use Rattle.trace_base.specs.Flat.{is_within}
-use Rattle.trace_base.specs.InOrder.{distinct_in_order}
+use Rattle.trace_base.specs.InOrder.{distinct_in_order, IsRisingListOf}
 use Rattle.trace_base.specs.declared.matrix.Matrix.{Matrix}
 use Rattle.trace_base.specs.declared.matrix.MatrixRow.{MatrixRow}
 use Rattle.trace_base.specs.declared.messages.Message.{Message}
@@ -48,6 +49,12 @@ pair_cmp p q = ordering_then (nat_cmp p.0 q.0) (nat_cmp p.1 q.1)
 -- the different pairs that have a message, in order
 unfoldable pub pairs_of : List Message → List (ℕ × ℕ)
 pairs_of messages = distinct_in_order pair_cmp (map pair_of messages)
+
+-- Each pair that has a message is told once, in order. There is one such list.
+abbrev pub TellsEachPair : List Message → Type 0
+TellsEachPair messages = IsRisingListOf pair_cmp (Contains (map pair_of messages)) (pairs_of messages)
+    × ((pairs : List (ℕ × ℕ)) → IsRisingListOf pair_cmp (Contains (map pair_of messages)) pairs
+    → pairs ≡ pairs_of messages)
 
 -- the matrix of the messages that were sent within [a, b): a row for each pair that has one
 unfoldable pub matrix_of : List Message → ℕ → ℕ → Matrix

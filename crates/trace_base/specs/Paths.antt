@@ -1,13 +1,13 @@
 -- The call-tree profile of streams over the half-open interval [a, b): what it has for each call path, where
 -- a path is a call stack from the outermost call down.
-use Rattle.std.specs.Prelude.{ℕ, ◌+◌, ◌-◌, Bool, false, not, ◌&&◌, ◌||◌, nat_eq, nat_lt, List, length, take}
-use Rattle.std.specs.Prelude.{map, filter, sum_by, count_by, slice_index, slice_get}
+use Rattle.std.specs.Prelude.{◌≡◌, ◌≢◌, ℕ, ◌+◌, ◌-◌, ◌≤◌, Bool, false, not, ◌&&◌, ◌||◌, nat_eq, nat_lt, List}
+use Rattle.std.specs.Prelude.{[], length, take, map, filter, sum_by, count_by, slice_index, slice_get}
 use Rattle.std.specs.Cmp.Lexicographic.{pointwise, slice_cmp}
-use Rattle.std.specs.List.{flat_map, range_with_len, starts_with}
+use Rattle.std.specs.List.{Contains, flat_map, range_with_len, starts_with}
 use Rattle.std.specs.Option.{option_map_or}
 use Rattle.std.specs.Ordering.{nat_cmp}
 use Rattle.trace_base.specs.Flat.{is_bare, is_within, time_with}
-use Rattle.trace_base.specs.InOrder.{distinct_in_order}
+use Rattle.trace_base.specs.InOrder.{distinct_in_order, IsRisingListOf}
 use Rattle.trace_base.specs.Stream.{is_enter, time_of, stack_after}
 use Rattle.trace_base.specs.declared.stream.TrackStream.{TrackStream}
 use Rattle.trace_base.specs.declared.profile.PathRow.{PathRow}
@@ -49,12 +49,29 @@ path_stands streams a b path = nat_lt 0 (sum_by (calls_making (is_under path) a 
 abbrev pub call_stacks : TrackStream → List (List ℕ)
 call_stacks s = map (λ n. stack_after (take n s.events)) (range_with_len 1 (length s.events))
 
--- The different call paths of the streams, in depth-first order: a path comes before those that go on from it,
--- and siblings rise by function. A path that a call stack begins with was the call stack itself when its
--- innermost call was entered, so these are all of them.
+-- the different call paths of the streams, in depth-first order: a path comes before those that go on from it,
+-- and siblings rise by function
 unfoldable pub call_paths : List TrackStream → List (List ℕ)
 call_paths streams = distinct_in_order (slice_cmp nat_cmp)
     (filter (λ stack. not (is_bare stack)) (flat_map call_stacks streams))
+
+-- The path is of at least one call, and a call stack of the streams begins with it: its first calls are the
+-- path, after some of a stream's events.
+pub record IsPathOf (streams : List TrackStream) (path : List ℕ) : Type 0 where
+  pub some : path ≢ []
+  pub stream : TrackStream
+  pub has : Contains streams stream
+  pub events : ℕ
+  pub within : events ≤ length stream.events
+  pub calls : ℕ
+  pub begins : path ≡ take calls (stack_after (take events stream.events))
+
+-- Each path that a call stack begins with is told once, in depth-first order: the stack was that path itself
+-- when the path's innermost call was entered. There is one such list.
+abbrev pub TellsEachPath : List TrackStream → Type 0
+TellsEachPath streams = IsRisingListOf (slice_cmp nat_cmp) (IsPathOf streams) (call_paths streams)
+    × ((paths : List (List ℕ)) → IsRisingListOf (slice_cmp nat_cmp) (IsPathOf streams) paths
+    → paths ≡ call_paths streams)
 
 -- the call-tree profile of the streams over [a, b), their numbers added: a row for each path that stands
 unfoldable pub paths : List TrackStream → ℕ → ℕ → PathProfile

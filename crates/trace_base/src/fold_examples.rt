@@ -1,7 +1,7 @@
 //! The definitions of timelines, call-tree profiles, messages and matrices, computed on small inputs. Each
 //! clause is the equation; the bodies are empty.
 ghost use Rattle.std.specs.Prelude.{◌≡◌, [], ◌∷◌};
-ghost use Rattle.trace_base.specs.FoldExamples.{no_time_under, both_ways, three_starts, crossed, end_first};
+ghost use Rattle.trace_base.specs.FoldExamples.{no_time_under, both_ways, siblings, three_starts, crossed, end_first};
 ghost use Rattle.trace_base.specs.Matrix.{matrix_of};
 ghost use Rattle.trace_base.specs.Messages.{table_of};
 ghost use Rattle.trace_base.specs.Paths.{paths};
@@ -20,8 +20,8 @@ pub fn timeline_of_two_calls()
     ensures uneven { timeline both_ways 0 3 2 ≡ 2 ∷ 1 ∷ [] }
 {}
 
-/// The call-tree profile of a call that calls itself, of two functions that call each other, and of a path
-/// that is told only because a call under it began.
+/// The call-tree profile of a call that calls itself, of two functions that call each other, of a path that is
+/// told only because a call under it began, and of siblings.
 #[tactic(auto, unfolding(crate::specs::Stream::stack_after, crate::specs::Stream::pieces, crate::specs::Flat::time_with, crate::specs::Paths::calls_making, crate::specs::Paths::path_row, crate::specs::Paths::path_stands, crate::specs::Paths::call_paths, crate::specs::Paths::paths))]
 pub fn paths_of_small_streams()
     ensures recursion { paths (recursion ∷ []) 0 10 ≡ record {
@@ -43,6 +43,15 @@ pub fn paths_of_small_streams()
       rows =
           record { depth = 1; func = 1; calls = 0; incl = 0; excl = 0 }
           ∷ record { depth = 2; func = 2; calls = 1; incl = 0; excl = 0 } ∷ [];
+    } }
+    // A path stands before those that go on from it, and siblings rise by function.
+    ensures siblings { paths (siblings ∷ []) 0 20 ≡ record {
+      bare = 8;
+      rows =
+          record { depth = 1; func = 1; calls = 1; incl = 12; excl = 4 }
+          ∷ record { depth = 2; func = 2; calls = 1; incl = 3; excl = 3 }
+          ∷ record { depth = 2; func = 3; calls = 1; incl = 5; excl = 2 }
+          ∷ record { depth = 3; func = 2; calls = 1; incl = 3; excl = 3 } ∷ [];
     } }
     // Over the same stream twice the numbers are added.
     ensures twice { paths (recursion ∷ recursion ∷ []) 3 10 ≡ record {

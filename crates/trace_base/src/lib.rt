@@ -6,6 +6,7 @@ mod asks;
 mod examples;
 mod faults;
 mod fold_examples;
+mod laws;
 mod legal_examples;
 mod limits;
 mod matrix;
