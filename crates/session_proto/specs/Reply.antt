@@ -1,6 +1,7 @@
 -- The texts of the replies. A function is told by the bytes of its name, at the end of its row.
 use Rattle.std.specs.Prelude.{ℕ, Bool, true, false, List, [], ◌∷◌, ◌++◌, length, codes, decimal}
 use Rattle.std.specs.List.{flat_map}
+use Rattle.trace_base.specs.declared.limits.TheConstants.{MAX_OPEN_TRACES}
 use Rattle.session_proto.specs.declared.reply.NamedRow.{NamedRow}
 use Rattle.session_proto.specs.declared.reply.No.{No}
 use Rattle.session_proto.specs.declared.reply.No.TheVariants as no
@@ -25,7 +26,7 @@ abbrev pub no_text : No → List ℕ
 no_text no.Grammar = codes "NO 10\n"
 no_text no.Unbuilt = codes "NO 29\n"
 no_text (no.Unknown id place) = codes "NO 30" ++ spaced id ++ at_place place
-no_text (no.Full place) = codes "NO 36 1024" ++ at_place place
+no_text (no.Full place) = codes "NO 36" ++ spaced MAX_OPEN_TRACES ++ at_place place
 no_text (no.Spent n) = codes "NO 40" ++ spaced n ++ 10 ∷ []
 no_text no.Memory = codes "NO 41\n"
 

@@ -1,8 +1,9 @@
 -- What a request line says. The line stands without its newline.
-use Rattle.std.specs.Prelude.{ℕ, ◌^◌, Bool, not, ◌&&◌, ◌||◌, ◌==◌, nat_lt, nat_le, if◌then◌else◌, List, []}
-use Rattle.std.specs.Prelude.{◌∷◌, length, slice_index, Option, None, Some, codes}
+use Rattle.std.specs.Prelude.{ℕ, ◌^◌, ◌≤◌, ◌<◌, Bool, not, ◌&&◌, ◌||◌, ◌==◌, nat_lt, nat_le, if◌then◌else◌}
+use Rattle.std.specs.Prelude.{List, [], ◌∷◌, length, slice_index, Option, None, Some, codes}
 use Rattle.std.specs.Str.{bytes_eq}
 use Rattle.decimal_digits.specs.Decimal.{decimal_of}
+use Rattle.trace_base.specs.declared.limits.TheConstants.{MAX_SMALL_TEXT, MAX_REQUEST_LINE, MAX_TIME}
 use Rattle.session_proto.specs.declared.request.Request.{Request}
 use Rattle.session_proto.specs.declared.request.Request.TheVariants.{Put, Flat, Quit}
 use Rattle.session_proto.specs.declared.request.Sel.TheVariants.{All}
@@ -25,14 +26,14 @@ unfoldable pub words_of : List ℕ → List (List ℕ)
 words_of [] = [] ∷ []
 words_of (c ∷ cs) = if c == 32 then [] ∷ words_of cs else onto_first c (words_of cs)
 
--- a text of at most 65,536 bytes
+-- a text that isn't too long
 abbrev pub put_of : Option ℕ → Option Request
 put_of None = None
-put_of (Some len) = if nat_le len 65536 then Some (Put len) else None
+put_of (Some len) = if nat_le len MAX_SMALL_TEXT then Some (Put len) else None
 
 -- an interval that begins before it ends, within the greatest time
 abbrev pub flat_of : Option ℕ → Option ℕ → Option ℕ → Option Request
-flat_of (Some id) (Some a) (Some b) = if nat_lt a b && nat_le b (2 ^ 62) then Some (Flat id All a b) else None
+flat_of (Some id) (Some a) (Some b) = if nat_lt a b && nat_le b MAX_TIME then Some (Flat id All a b) else None
 flat_of (Some id) (Some a) None = None
 flat_of (Some id) None b = None
 flat_of None a b = None
@@ -49,6 +50,17 @@ request_of_words (verb ∷ id ∷ sel ∷ a ∷ b ∷ []) =
     (number_of b) else None
 request_of_words (verb ∷ id ∷ sel ∷ a ∷ b ∷ more ∷ words) = None
 
--- the request that the line is; a line of more than 4,096 bytes is none
+-- the request that the line is; a line that is too long is none
 unfoldable pub request_of : List ℕ → Option Request
-request_of line = if nat_le (length line) 4096 then request_of_words (words_of line) else None
+request_of line = if nat_le (length line) MAX_REQUEST_LINE then request_of_words (words_of line) else None
+
+-- the line is the whole request: no bytes follow it
+abbrev pub HasNoText : Request → Type 0
+HasNoText (Put len) = ⊥
+HasNoText request = Unit {0}
+
+-- the numbers of the request are within their limits
+abbrev pub IsWithinLimits : Request → Type 0
+IsWithinLimits (Put len) = len ≤ MAX_SMALL_TEXT
+IsWithinLimits (Flat id sel a b) = (a < b) × (b ≤ MAX_TIME)
+IsWithinLimits Quit = Unit {0}

@@ -1,13 +1,11 @@
-ghost use Rattle.std.specs.Prelude.{◌≡◌, ℕ, List, ◌∷◌, None, if◌then◌else◌, codes};
+ghost use Rattle.std.specs.Prelude.{◌≡◌, ℕ, List, ◌∷◌, None, if◌then◌else◌, codes, IfSome};
 ghost use Rattle.std.specs.Str.{bytes_eq};
 ghost use Rattle.session_proto.specs.Request.{request_of, request_of_words, words_of, flat_of};
+ghost use Rattle.session_proto.specs.Request.{IsWithinLimits};
 
 use crate::number::number;
 use crate::words::split_word;
-use trace_base::{MAX_REQUEST_LINE, MAX_TIME};
-
-/// The greatest text that a PUT may have, in bytes.
-const MAX_PUT: u64 = 65_536;
+use trace_base::{MAX_REQUEST_LINE, MAX_SMALL_TEXT, MAX_TIME};
 
 /// Which tracks a query is about.
 #[derive(Clone, Copy, Debug, PartialEq, Eq)]
@@ -19,18 +17,21 @@ pub enum Sel {
 /// A request line. Its numbers are decimal digits with no sign and no zero in front, and below 2^64.
 #[derive(Clone, Copy, Debug, PartialEq, Eq)]
 pub enum Request {
-    /// `PUT len`: a trace text of so many bytes follows, at most 65,536.
+    /// `PUT len`: a trace text of so many bytes follows, at most `MAX_SMALL_TEXT`.
     Put(u64),
-    /// `FLAT id * a b`: the flat profile of a trace over the half-open interval [a, b), in nanoseconds.
+    /// `FLAT id * a b`: the flat profile of a trace over the half-open interval [a, b), in nanoseconds; b is at
+    /// most `MAX_TIME`.
     Flat { id: u64, sel: Sel, a: u64, b: u64 },
     /// `QUIT`: the session ends.
     Quit,
 }
 
-/// The request that a line is, without its newline; `None` where it is none.
-#[tactic(auto, unfolding(crate::specs::Request::request_of))]
+/// The request that a line is, without its newline; `None` where it is none. A line of more than
+/// `MAX_REQUEST_LINE` bytes is none.
+#[tactic(auto, using(crate::proofs::Limits::request_limited), unfolding(crate::specs::Request::request_of))]
 pub fn parse_request(line: &[u8]) -> Option<Request>
-    ensures { result ≡ request_of line.now }
+    ensures request { result ≡ request_of line.now }
+    ensures limits { IfSome result IsWithinLimits }
 {
     if line.len() > MAX_REQUEST_LINE {
         return None;
@@ -68,7 +69,7 @@ fn parse_put(rest: &[u8]) -> Option<Request>
 {
     match split_word(rest) {
         (word, None) => match number(word) {
-            Some(len) if len <= MAX_PUT => Some(Request::Put(len)),
+            Some(len) if len <= MAX_SMALL_TEXT => Some(Request::Put(len)),
             _ => None,
         },
         (_, Some(_)) => None,

@@ -5,7 +5,7 @@ ghost use Rattle.session_proto.specs.Reply.{spaced, at_place, row_text, no_text,
 
 use crate::reply::{NamedRow, No, Reply};
 use itoa::Buffer;
-use trace_base::Memory;
+use trace_base::{MAX_OPEN_TRACES, Memory};
 
 /// The room that every reply but a profile's rows fits in, in bytes.
 const SHORT: usize = 200;
@@ -84,7 +84,8 @@ fn add_refusal(out: &mut Vec<u8>, no: &No)
             add_place(out, *place);
         }
         No::Full(place) => {
-            add(out, b"NO 36 1024");
+            add(out, b"NO 36");
+            add_spaced(out, MAX_OPEN_TRACES);
             add_place(out, *place);
         }
         No::Spent(n) => {
