@@ -1,21 +1,21 @@
 -- What each call of a hall answers, and what it does to the seat. `alone` says that no other seat acts in
 -- this hall.
-use Rattle.std.specs.Prelude.{◌≡◌, ℕ, ◌+◌, ◌^◌, ◌≤◌, ◌<◌, ◌⊎◌, Bool, false, List, [], ◌∷◌, ◌++◌, length}
+use Rattle.std.specs.Prelude.{◌≡◌, ℕ, ◌+◌, ◌≤◌, ◌<◌, ◌⊎◌, Bool, false, List, [], ◌∷◌, ◌++◌, length}
 use Rattle.std.specs.Prelude.{Option, Some, Result, Ok, Err, IsTrue}
 use Rattle.std.specs.Bool.{OnTrue}
 use Rattle.trace_base.specs.Outside.{Told}
 use Rattle.trace_base.specs.declared.asks.AskIds.{AskIds}
 use Rattle.trace_base.specs.declared.asks.AskIds.TheVariants.{One, Two}
+use Rattle.trace_base.specs.declared.limits.TheConstants.{MAX_OPEN_TRACES, MAX_PLACES}
 use Rattle.trace_base.specs.declared.names.TraceInfo.{TraceInfo}
-use Rattle.trace_base.specs.declared.stream.TrackStream.{TrackStream}
-use Rattle.hall_trait.specs.History.{Entry, Opened, Published, Asked, next_id, info_of, is_open, open_ids}
-use Rattle.hall_trait.specs.History.{tracks_of, promised}
-use Rattle.hall_trait.specs.Seat.{Seat, MakesEntry, Adds, Removes, Replaces}
+use Rattle.hall_trait.specs.History.{Entry, Opened, Published, Sealed, Dropped, Closed, Asked, next_id}
+use Rattle.hall_trait.specs.History.{info_of, is_open, open_ids, tracks_of, promised}
+use Rattle.hall_trait.specs.Seat.{Seat, PassView, MakesEntry, Adds, Becomes}
 use Rattle.hall_trait.specs.Pass.{pass_view, IsFresh, advanced}
 use Rattle.hall_trait.specs.Pin.{pin_view, first_id, second_id}
 use Rattle.hall_trait.specs.declared.pass.LoadPass.{LoadPass}
+use Rattle.hall_trait.specs.declared.pin.Pin.{Pin}
 use Rattle.hall_trait.specs.declared.answers.HallFault.{HallFault}
-use Rattle.hall_trait.specs.declared.answers.HallFault.TheVariants.{Memory, Full}
 use Rattle.hall_trait.specs.declared.answers.HallFault.TheVariants as fault
 use Rattle.hall_trait.specs.declared.answers.AskAnswer.{AskAnswer}
 use Rattle.hall_trait.specs.declared.answers.AskAnswer.TheVariants as answer
@@ -24,63 +24,95 @@ use Rattle.hall_trait.specs.declared.answers.AskAnswer.TheVariants as answer
 abbrev pub places_taken : List Entry → ℕ
 places_taken entries = length entries + promised entries
 
+-- the places that a whole load needs: to open the trace, for each track, and to end the load
+abbrev pub places_of_load : TraceInfo → ℕ
+places_of_load info = length info.names.tracks + 2
+
 -- so many more places fit
 abbrev pub HasRoom : List Entry → ℕ → Type 0
-HasRoom entries n = places_taken entries + n ≤ 2 ^ 62
+HasRoom entries n = places_taken entries + n ≤ MAX_PLACES
 
 -- n more places don't fit where p of them are taken or promised, which are never more than there are
 abbrev pub LeavesNoRoom : ℕ → ℕ → Type 0
-LeavesNoRoom n p = (p ≤ 2 ^ 62) × (2 ^ 62 < p + n)
+LeavesNoRoom n p = (p ≤ MAX_PLACES) × (MAX_PLACES < p + n)
 
--- Where the hall records the numbers that it found used up, the call recorded this one, or none.
-abbrev pub RecordsSpent : Option (List ℕ) → Option (List ℕ) → ℕ → Type 0
-RecordsSpent old new p = Told old new (λ was now. now ≡ was ++ p ∷ [])
+-- Where the hall records the numbers that it told as used up, the call recorded this one, or none.
+abbrev pub RecordsUsedUp : Option (List ℕ) → Option (List ℕ) → ℕ → Type 0
+RecordsUsedUp old new p = Told old new (λ was now. now ≡ was ++ p ∷ [])
 
 abbrev pub RecordsNone : Option (List ℕ) → Option (List ℕ) → Type 0
 RecordsNone old new = new ≡ old
 
--- What admit answers. Ok: the trace is opened under the next id, with a pass over all its tracks. Full comes
--- where 1,024 traces are open, and Spent where the entries of the whole load don't fit any more; it tells how
--- many places are taken or promised.
+-- Nothing happens, and the hall tells that p places are taken or promised, which leaves no room for n more.
+pub record TellsUsedUp (alone : Bool) (old new : Seat) (n p : ℕ) : Type 0 where
+  pub same : new ≡ old
+  pub no_room : LeavesNoRoom n p
+  pub taken : OnTrue alone (p ≡ places_taken old.seen)
+
+-- the trace is opened under the next id, with a pass over all its tracks
+pub record OpensTrace (alone : Bool) (old new : Seat) (info : TraceInfo) (pass : LoadPass) : Type 0 where
+  pub entered : MakesEntry alone old new (Opened pass.id info) pass.place
+  pub next : pass.id + 1 ≡ next_id new.seen
+  pub opened : info_of new.seen pass.id ≡ Some info
+  pub fresh : IsFresh pass (length info.names.tracks)
+  pub passes : Adds old.passes new.passes (pass_view pass)
+  pub pins : new.pins ≡ old.pins
+  pub room : OnTrue alone (HasRoom old.seen (places_of_load info))
+
+-- the most traces are open as of this place, which isn't told before the places are used up
+pub record TellsFull (alone : Bool) (old new : Seat) (info : TraceInfo) (place : ℕ) : Type 0 where
+  pub entered : MakesEntry alone old new Asked place
+  pub full : length (open_ids new.seen) ≡ MAX_OPEN_TRACES
+  pub passes : new.passes ≡ old.passes
+  pub pins : new.pins ≡ old.pins
+  pub room : OnTrue alone (HasRoom old.seen (places_of_load info))
+
+-- What admit answers. Full comes where the most traces are open, and Spent, before it, where the entries of
+-- the whole load don't fit any more.
 abbrev pub Admits : Bool → Seat → Seat → TraceInfo → Result LoadPass HallFault → Type 0
-Admits alone old new info (Ok pass) =
-    MakesEntry alone old new (Opened pass.id info) pass.place × (pass.id + 1 ≡ next_id new.seen)
-    × (info_of new.seen pass.id ≡ Some info)
-    × IsFresh pass (length info.names.tracks) × Adds old.passes new.passes (pass_view pass)
-    × (new.pins ≡ old.pins)
-    × OnTrue alone (HasRoom old.seen (length info.names.tracks + 2))
-Admits alone old new info (Err (fault.Full place)) =
-    MakesEntry alone old new Asked place × (length (open_ids new.seen) ≡ 1024) × (new.passes ≡ old.passes)
-    × (new.pins ≡ old.pins)
-    × OnTrue alone (HasRoom old.seen (length info.names.tracks + 2))
-Admits alone old new info (Err (fault.Spent p)) = (new ≡ old) × LeavesNoRoom (length info.names.tracks + 2) p
-    × OnTrue alone (p ≡ places_taken old.seen)
+Admits alone old new info (Ok pass) = OpensTrace alone old new info pass
+Admits alone old new info (Err (fault.Full place)) = TellsFull alone old new info place
+Admits alone old new info (Err (fault.Spent p)) = TellsUsedUp alone old new (places_of_load info) p
 Admits alone old new info (Err fault.Memory) = new ≡ old
 
 -- what admit records of the numbers that are used up
 abbrev pub AdmitRecords : Option (List ℕ) → Option (List ℕ) → Result LoadPass HallFault → Type 0
 AdmitRecords old new (Ok pass) = RecordsNone old new
-AdmitRecords old new (Err (fault.Spent p)) = RecordsSpent old new p
+AdmitRecords old new (Err (fault.Spent p)) = RecordsUsedUp old new p
 AdmitRecords old new (Err (fault.Full place)) = RecordsNone old new
 AdmitRecords old new (Err fault.Memory) = RecordsNone old new
 
--- What keep answers. Ok: the track is published, and the pass has gone on. Want of memory changes nothing,
--- and there is no other fault.
-abbrev pub Keeps : Bool → Seat → Seat → LoadPass → LoadPass → ℕ → TrackStream → Result ℕ HallFault → Type 0
-Keeps alone old new was now track s (Ok place) =
-    MakesEntry alone old new (Published was.id track s) place × (now ≡ advanced was track)
-    × Replaces old.passes new.passes (pass_view was) (pass_view now) × (new.pins ≡ old.pins)
-Keeps alone old new was now track s (Err e) = (e ≡ Memory) × (new ≡ old) × (now ≡ was)
+-- What is left of a pass after an entry of its load: where a track is published the pass as it goes on, and
+-- where the load ends nothing. No other entry is made with a pass.
+abbrev pub left_after : LoadPass → Entry → List PassView
+left_after pass (Published id track stream) = pass_view (advanced pass) ∷ []
+left_after pass (Sealed id) = []
+left_after pass (Dropped id) = []
+left_after pass (Opened id info) = pass_view pass ∷ []
+left_after pass (Closed id) = pass_view pass ∷ []
+left_after pass Asked = pass_view pass ∷ []
+
+-- An entry of a load is made with its pass: among the seat's passes stands what is left of it. The pins stay.
+pub record MakesLoadEntry (alone : Bool) (old new : Seat) (pass : LoadPass) (entry : Entry) (place : ℕ)
+    : Type 0 where
+  pub entered : MakesEntry alone old new entry place
+  pub passes : Becomes old.passes new.passes (pass_view pass) (left_after pass entry)
+  pub pins : new.pins ≡ old.pins
+
+-- What keep answers where it makes this entry. Want of memory changes nothing, and there is no other fault.
+abbrev pub Keeps : Bool → Seat → Seat → LoadPass → Entry → Result ℕ HallFault → Type 0
+Keeps alone old new pass entry (Ok place) = MakesLoadEntry alone old new pass entry place
+Keeps alone old new pass entry (Err e) = (e ≡ fault.Memory) × (new ≡ old)
+
+-- the pass after keep
+abbrev pub pass_after : LoadPass → Result ℕ HallFault → LoadPass
+pass_after pass (Ok place) = advanced pass
+pass_after pass (Err e) = pass
 
 -- the pass is over all tracks of its trace
-abbrev pub CoversAll : List Entry → LoadPass → Type 0
-CoversAll entries pass = (pass.from ≡ 0) × (pass.to ≡ tracks_of entries pass.id)
-
--- the load is ended by this entry, and the pass is gone
-abbrev pub EndsLoad : Bool → Seat → Seat → LoadPass → Entry → ℕ → Type 0
-EndsLoad alone old new pass entry place =
-    MakesEntry alone old new entry place × Removes old.passes new.passes (pass_view pass)
-    × (new.pins ≡ old.pins)
+pub record CoversAll (entries : List Entry) (pass : LoadPass) : Type 0 where
+  pub from : pass.from ≡ 0
+  pub to : pass.to ≡ tracks_of entries pass.id
 
 -- each trace that is asked for is open
 abbrev pub AreOpen : List Entry → AskIds → Type 0
@@ -94,22 +126,35 @@ IsFirstUnknown entries (Two a b) id =
     ((id ≡ a) × (is_open entries a ≡ false))
     ⊎ ((id ≡ b) × IsTrue (is_open entries a) × (is_open entries b ≡ false))
 
--- What ask answers. A pin holds the traces as of its place, with their numbers of tracks. Unknown tells the
--- first one that isn't open, and Spent comes where no place is left, and tells how many there are.
+-- the traces are held as of the place of the question, with their numbers of tracks
+pub record PinsTraces (alone : Bool) (old new : Seat) (ids : AskIds) (pin : Pin) : Type 0 where
+  pub entered : MakesEntry alone old new Asked pin.place
+  pub are_open : AreOpen new.seen ids
+  pub same_ids : pin.ids ≡ ids
+  pub first : pin.first.tracks ≡ tracks_of new.seen (first_id ids)
+  pub second : pin.second.tracks ≡ tracks_of new.seen (second_id ids)
+  pub pins : Adds old.pins new.pins (pin_view pin)
+  pub passes : new.passes ≡ old.passes
+  pub room : OnTrue alone (HasRoom old.seen 1)
+
+-- this trace is the first of them that isn't open, as of the place of the question
+pub record TellsUnknown (alone : Bool) (old new : Seat) (ids : AskIds) (id place : ℕ) : Type 0 where
+  pub entered : MakesEntry alone old new Asked place
+  pub unknown : IsFirstUnknown new.seen ids id
+  pub pins : new.pins ≡ old.pins
+  pub passes : new.passes ≡ old.passes
+  pub room : OnTrue alone (HasRoom old.seen 1)
+
+-- What ask answers. Unknown tells the id that the next trace will get, too. Spent comes where no place is
+-- left.
 abbrev pub Asks : Bool → Seat → Seat → AskIds → AskAnswer → Type 0
-Asks alone old new ids (answer.Pinned pin) =
-    MakesEntry alone old new Asked pin.place × AreOpen new.seen ids × (pin.ids ≡ ids)
-    × (pin.first.tracks ≡ tracks_of new.seen (first_id ids))
-    × (pin.second.tracks ≡ tracks_of new.seen (second_id ids))
-    × Adds old.pins new.pins (pin_view pin) × (new.passes ≡ old.passes) × OnTrue alone (HasRoom old.seen 1)
+Asks alone old new ids (answer.Pinned pin) = PinsTraces alone old new ids pin
 Asks alone old new ids (answer.Unknown id next place) =
-    MakesEntry alone old new Asked place × IsFirstUnknown new.seen ids id × (next ≡ next_id new.seen)
-    × (new.pins ≡ old.pins) × (new.passes ≡ old.passes) × OnTrue alone (HasRoom old.seen 1)
-Asks alone old new ids (answer.Spent p) = (new ≡ old) × LeavesNoRoom 1 p
-    × OnTrue alone (p ≡ places_taken old.seen)
+    TellsUnknown alone old new ids id place × (next ≡ next_id new.seen)
+Asks alone old new ids (answer.Spent p) = TellsUsedUp alone old new 1 p
 
 -- what ask records of the numbers that are used up
 abbrev pub AskRecords : Option (List ℕ) → Option (List ℕ) → AskAnswer → Type 0
 AskRecords old new (answer.Pinned pin) = RecordsNone old new
 AskRecords old new (answer.Unknown id next place) = RecordsNone old new
-AskRecords old new (answer.Spent p) = RecordsSpent old new p
+AskRecords old new (answer.Spent p) = RecordsUsedUp old new p

@@ -5,6 +5,7 @@ use Rattle.std.specs.Prelude.{length, take, filter, sum_by, slice_get, Option, N
 use Rattle.std.specs.List.{list_any, filter_map}
 use Rattle.std.specs.Option.{option_map_or}
 use Rattle.trace_base.specs.Info.{IsLegalInfo, Fits}
+use Rattle.trace_base.specs.declared.limits.TheConstants.{MAX_OPEN_TRACES}
 use Rattle.trace_base.specs.declared.names.TraceInfo.{TraceInfo}
 use Rattle.trace_base.specs.declared.stream.TrackStream.{TrackStream}
 
@@ -119,12 +120,12 @@ abbrev pub FitsTrack : List Entry → ℕ → ℕ → TrackStream → Type 0
 FitsTrack entries id track s = (info : TraceInfo) × (info_of entries id ≡ Some info)
     × (track < length info.names.tracks) × Fits s info track
 
--- Whether an entry may come after these. Ids are given in order, and at most 1,024 traces are open. A track
--- is published once, while its trace is loading, with a stream that fits it. A trace is sealed when all its
--- tracks are published. A loading trace may be dropped, and a sealed one closed.
+-- Whether an entry may come after these. Ids are given in order, and at most MAX_OPEN_TRACES are open at
+-- once. A track is published once, while its trace is loading, with a stream that fits it. A trace is sealed
+-- when all its tracks are published. A loading trace may be dropped, and a sealed one closed.
 abbrev pub MayFollow : List Entry → Entry → Type 0
 MayFollow entries (Opened id info) = (id ≡ next_id entries) × IsLegalInfo info
-    × (length (open_ids entries) < 1024)
+    × (length (open_ids entries) < MAX_OPEN_TRACES)
 MayFollow entries (Published id track stream) =
     IsTrue (is_loading entries id) × (stream_of entries id track ≡ None) × FitsTrack entries id track stream
 MayFollow entries (Sealed id) = IsTrue (is_loading entries id)

@@ -1,13 +1,6 @@
 pub mod Answers
 pub mod History
 pub mod HistoryProps
-pub mod Kept
-pub mod KeptHistory
-pub mod Loading
-pub mod Orderly
 pub mod Pass
 pub mod Pin
-pub mod PlainHall
-pub mod PlainSeat
-pub mod RoomLaw
 pub mod Seat

@@ -1,7 +1,7 @@
 -- How far a load pass has come.
-use Rattle.std.specs.Prelude.{◌≡◌, ℕ, ◌+◌, ◌==◌, if◌then◌else◌}
+use Rattle.std.specs.Prelude.{◌≡◌, ℕ, ◌+◌, ◌-◌, ◌==◌, if◌then◌else◌}
 use Rattle.trace_base.specs.declared.asks.PassState.{PassState}
-use Rattle.trace_base.specs.declared.asks.PassState.TheVariants.{Straight, Whole}
+use Rattle.trace_base.specs.declared.asks.PassState.TheVariants.{Straight, Whole, Broken}
 use Rattle.hall_trait.specs.Seat.{PassView}
 use Rattle.hall_trait.specs.declared.pass.LoadPass.{LoadPass}
 
@@ -14,13 +14,27 @@ abbrev pub state_at : ℕ → ℕ → PassState
 state_at next to = if next == to then Whole else Straight next
 
 -- a pass over all of so many tracks, of which none is published
-abbrev pub IsFresh : LoadPass → ℕ → Type 0
-IsFresh pass tracks = (pass.from ≡ 0) × (pass.to ≡ tracks) × (pass.state ≡ state_at 0 tracks)
+pub record IsFresh (pass : LoadPass) (tracks : ℕ) : Type 0 where
+  pub from : pass.from ≡ 0
+  pub to : pass.to ≡ tracks
+  pub state : pass.state ≡ state_at 0 tracks
 
 -- this track is the next to publish
 abbrev pub IsNext : LoadPass → ℕ → Type 0
 IsNext pass track = pass.state ≡ Straight track
 
+-- how far a pass up to track `to` has come after its next track was published
+abbrev pub state_after : PassState → ℕ → PassState
+state_after (Straight track) to = state_at (track + 1) to
+state_after Whole to = Whole
+state_after Broken to = Broken
+
 -- the pass after its next track was published
-abbrev pub advanced : LoadPass → ℕ → LoadPass
-advanced pass track = record pass { state = state_at (track + 1) pass.to }
+abbrev pub advanced : LoadPass → LoadPass
+advanced pass = record pass { state = state_after pass.state pass.to }
+
+-- how many tracks a pass up to track `to` has left to publish
+abbrev pub left_in : PassState → ℕ → ℕ
+left_in (Straight next) to = to - next
+left_in Whole to = 0
+left_in Broken to = 0

@@ -54,10 +54,17 @@ pub record MakesEntry (alone : Bool) (old new : Seat) (entry : Entry) (place : �
 abbrev pub Adds : {X : Type 0} → List X → List X → X → Type 0
 Adds old new x = new ≡ old ++ x ∷ []
 
--- one place of the item is free, and the others stay as they were
-abbrev pub Removes : {X : Type 0} → List X → List X → X → Type 0
-Removes {X} old new x = (front back : List X) × (old ≡ front ++ x ∷ back) × (new ≡ front ++ back)
+-- at one place of the item stand these in its stead, and the others stay as they were
+pub record Becomes {X : Type 0} (old new : List X) (item : X) (stead : List X) : Type 0 where
+  pub front : List X
+  pub back : List X
+  pub was : old ≡ front ++ item ∷ back
+  pub now : new ≡ front ++ (stead ++ back)
 
--- another item stands at one place of the item, and the others stay as they were
+-- one place of the item is free
+abbrev pub Removes : {X : Type 0} → List X → List X → X → Type 0
+Removes old new x = Becomes old new x []
+
+-- another item stands at one place of the item
 abbrev pub Replaces : {X : Type 0} → List X → List X → X → X → Type 0
-Replaces {X} old new x y = (front back : List X) × (old ≡ front ++ x ∷ back) × (new ≡ front ++ y ∷ back)
+Replaces old new x y = Becomes old new x (y ∷ [])

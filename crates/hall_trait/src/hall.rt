@@ -5,9 +5,10 @@ ghost use Rattle.std.specs.Bool.{OnTrue};
 ghost use Rattle.std.specs.Option.{option_copied};
 ghost use Rattle.trace_base.specs.Info.{IsLegalInfo};
 ghost use Rattle.trace_base.specs.declared.asks.PassState.TheVariants.{Straight, Whole};
-ghost use Rattle.hall_trait.specs.Answers.{Admits, AdmitRecords, Keeps, CoversAll, EndsLoad, Asks};
-ghost use Rattle.hall_trait.specs.Answers.{AskRecords, RecordsNone, HasRoom};
-ghost use Rattle.hall_trait.specs.History.{Entry, Sealed, Dropped, FitsTrack, IsLegalHistory, info_of};
+ghost use Rattle.hall_trait.specs.Answers.{Admits, AdmitRecords, Keeps, CoversAll, MakesLoadEntry};
+ghost use Rattle.hall_trait.specs.Answers.{Asks, AskRecords, RecordsNone, HasRoom, pass_after};
+ghost use Rattle.hall_trait.specs.History.{Entry, Published, Sealed, Dropped, FitsTrack, IsLegalHistory};
+ghost use Rattle.hall_trait.specs.History.{info_of};
 ghost use Rattle.hall_trait.specs.History.{stream_of};
 ghost use Rattle.hall_trait.specs.Pass.{pass_view, IsNext};
 ghost use Rattle.hall_trait.specs.Pin.{pin_view, first_id, id_at};
@@ -30,8 +31,8 @@ pub trait Hall {
     /// Whether no other seat acts in this hall. What the seat has seen is then the whole history.
     ghost alone: { Bool };
 
-    /// The numbers that this seat found used up, where the hall tells them.
-    ghost limits: { Self → Option (List ℕ) };
+    /// The numbers that this seat was told as used up, in order, where the hall tells them.
+    ghost used_up: { Self → Option (List ℕ) };
 
     /// Opens a trace, which is loading from then on. The places of all its entries are promised to it.
     /// `Spent` where they don't fit any more, else `Full` where the most traces are open, and `Memory` where
@@ -43,7 +44,7 @@ pub trait Hall {
     ) -> Result<LoadPass, HallFault>
         requires { IsLegalInfo (arc_value info) }
         ensures answer { Admits alone (seat self.old) (seat self.new) (arc_value info) result }
-        ensures records { AdmitRecords (limits self.old) (limits self.new) result };
+        ensures records { AdmitRecords (used_up self.old) (used_up self.new) result };
 
     /// Publishes the next track of a pass, and answers the place. Of faults it answers `Memory` alone, and
     /// then the pass is as before.
@@ -57,29 +58,32 @@ pub trait Hall {
         requires fits { (track : ℕ) × IsNext pass.old track × FitsTrack (seat self.old).seen pass.old.id track
             s }
         ensures answer { (track : ℕ) → IsNext pass.old track → Keeps alone (seat self.old) (seat self.new)
-            pass.old pass.new track s result }
-        ensures records { RecordsNone (limits self.old) (limits self.new) };
+            pass.old (Published pass.old.id track s) result }
+        ensures pass { pass.new ≡ pass_after pass.old result }
+        ensures records { RecordsNone (used_up self.old) (used_up self.new) };
 
     /// Ends the load of a trace all of whose tracks are published. It answers the place, and takes no memory.
     fn seal<R: Wait>(&mut self, rt: &R, pass: LoadPass) -> u64
         requires has { Contains (seat self.old).passes (pass_view pass) }
         requires covers { CoversAll (seat self.old).seen pass }
         requires whole { pass.state ≡ Whole }
-        ensures answer { EndsLoad alone (seat self.old) (seat self.new) pass (Sealed pass.id) result }
-        ensures records { RecordsNone (limits self.old) (limits self.new) };
+        ensures answer { MakesLoadEntry alone (seat self.old) (seat self.new) pass (Sealed pass.id)
+            result }
+        ensures records { RecordsNone (used_up self.old) (used_up self.new) };
 
     /// Gives up the load of a trace, which is gone then. It answers the place, and takes no memory.
     fn abandon<R: Wait>(&mut self, rt: &R, pass: LoadPass) -> u64
         requires has { Contains (seat self.old).passes (pass_view pass) }
         requires covers { CoversAll (seat self.old).seen pass }
-        ensures answer { EndsLoad alone (seat self.old) (seat self.new) pass (Dropped pass.id) result }
-        ensures records { RecordsNone (limits self.old) (limits self.new) };
+        ensures answer { MakesLoadEntry alone (seat self.old) (seat self.new) pass (Dropped pass.id)
+            result }
+        ensures records { RecordsNone (used_up self.old) (used_up self.new) };
 
     /// Asks for one or two traces. It takes no memory.
     fn ask<R: Wait>(&mut self, rt: &R, ids: AskIds) -> AskAnswer
         requires { (seat self.old).pins ≡ [] }
         ensures answer { Asks alone (seat self.old) (seat self.new) ids result }
-        ensures records { AskRecords (limits self.old) (limits self.new) result };
+        ensures records { AskRecords (used_up self.old) (used_up self.new) result };
 
     /// The stream of a track, counted from 0, of the pin's first trace; `None` exactly where it isn't
     /// published at the pin's place.
@@ -105,7 +109,7 @@ pub trait Hall {
             (id_at pin.now.ids which) ≡ Some (arc_value info)) }
         ensures memory { IfErr result (λ e. e ≡ Memory) }
         ensures same { seat self.new ≡ seat self.old }
-        ensures records { RecordsNone (limits self.old) (limits self.new) };
+        ensures records { RecordsNone (used_up self.old) (used_up self.new) };
 
     /// Gives a pin back. It makes no entry, and takes no memory.
     fn unpin<R: Wait>(&mut self, rt: &R, pin: Pin)
@@ -113,7 +117,7 @@ pub trait Hall {
         ensures gone { Removes (seat self.old).pins (seat self.new).pins (pin_view pin) }
         ensures passes { (seat self.new).passes ≡ (seat self.old).passes }
         ensures entries { MakesNoEntry (seat self.old) (seat self.new) }
-        ensures records { RecordsNone (limits self.old) (limits self.new) };
+        ensures records { RecordsNone (used_up self.old) (used_up self.new) };
 
     /// The history is legal.
     ghost legal: { (h : Self) → IsLegalHistory (seat h).seen };

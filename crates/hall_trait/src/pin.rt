@@ -16,13 +16,24 @@ pub struct Pin {
 
 impl Pin {
     ghost use Rattle.std.specs.Prelude.{◌≡◌, ◌<◌};
-    ghost use Rattle.hall_trait.specs.Pin.{brief_at};
+    ghost use Rattle.hall_trait.specs.Pin.{brief_at, id_at};
 
     /// The place at which it was asked for, counted from 1.
     pub fn place(&self) -> u64
         ensures { result ≡ self.now.place }
     {
         self.place
+    }
+
+    /// The id of its first trace, for 0, or of its second, for 1.
+    pub fn id(&self, which: u8) -> u64
+        requires { which < 2 }
+        ensures { result ≡ id_at self.now.ids which }
+    {
+        match self.ids {
+            AskIds::One(a) => a,
+            AskIds::Two(a, b) => if which == 0 { a } else { b },
+        }
     }
 
     /// The brief of its first trace, for 0, or of its second, for 1.

@@ -1,15 +1,26 @@
 -- What the bytes of a line, and of a text behind it, are to a session.
-use Rattle.std.proofs.Common.{◌≡◌, ◌≢◌, ap, ◌∙◌, sym, ℕ, ◌<◌, List, [], ◌∷◌, ◌++◌, length, Option, None, Some}
+use Rattle.std.proofs.Common.{◌≡◌, ◌≢◌, refl, ap, ◌∙◌, sym, ℕ, ◌<◌, List, [], ◌∷◌, ◌++◌, length, Option, None}
+use Rattle.std.proofs.Common.{Some}
 use Rattle.std.proofs.Common.{arith, length-append}
-use Rattle.session_proto.specs.Request.{request_of}
-use Rattle.session_proto.specs.declared.request.Request.TheVariants as line
-use Rattle.request_reader.specs.Requests.{Put, Unreadable, first_request}
-use Rattle.request_reader.specs.Incoming.{Takes, Spells}
+use Rattle.session_proto.proofs.Limits.{request_of-long}
+use Rattle.session_proto.specs.Request.{request_of, text_length}
+use Rattle.session_proto.specs.declared.request.Request.{Request}
+use Rattle.request_reader.specs.Requests.{WholeRequest, Load, Unreadable, first_request}
+use Rattle.request_reader.specs.Incoming.{Takes, Spells, Is}
+use Rattle.request_reader.specs.declared.incoming.Incoming.{Incoming}
+use Rattle.request_reader.specs.declared.incoming.Incoming.TheVariants as incoming
 use Rattle.request_reader.specs.Skipping.{HasNoNewline}
 use Rattle.request_reader.specs.LineReading.{IsLongLine}
-use Rattle.request_reader.proofs.Limits.{request_of-long}
-use Rattle.request_reader.proofs.Spelling.{spells-unreadable, spells-put, first_request-short}
-use Rattle.request_reader.proofs.Taking.{takes-then}
+use Rattle.request_reader.proofs.Spelling.{spells-unreadable, spells-load, first_request-short}
+use Rattle.request_reader.proofs.Taking.{takes-then, takes-so}
+
+-- what came is the request that was spelled
+pub comes_as : (i : Incoming) (text : List ℕ) (r : WholeRequest) (old new : Option (List ℕ)) → Is i text r
+    → Takes old new (λ taken. Spells taken r)
+    → Takes old new (λ taken. (q : WholeRequest) × Is i text q × Spells taken q)
+comes_as i text r old new is t =
+    takes-so (λ taken. Spells taken r) (λ taken. (q : WholeRequest) × Is i text q × Spells taken q) old new t
+    (λ s spells. (r, is, spells))
 
 -- a line and its newline
 abbrev pub IsLine : List ℕ → List ℕ → Type 0
@@ -18,35 +29,39 @@ IsLine bytes taken = taken ≡ bytes ++ 10 ∷ []
 pub spells-long : (taken : List ℕ) → IsLongLine taken → Spells taken Unreadable
 spells-long taken long = spells-unreadable long.0 taken long.2 (request_of-long long.0 long.3) long.1
 
--- the line of a PUT, and the text behind it
-pub takes-put : (bytes text : List ℕ) (old mid new : Option (List ℕ)) → HasNoNewline bytes
-    → request_of bytes ≡ Some (line.Put (length text)) →
-    Takes old mid (IsLine bytes) → Takes mid new (λ t. t ≡ text)
-    → Takes old new (λ taken. Spells taken (Put text))
-takes-put bytes text old mid new none is first behind =
-    takes-then (IsLine bytes) (λ t. t ≡ text) (λ taken. Spells taken (Put text)) old mid new first behind
-    (λ s t eq same. rw same (spells-put bytes s text none is eq))
+-- a line, and the text behind it
+pub takes-load : (bytes text : List ℕ) (request : Request) (old mid new : Option (List ℕ))
+    → HasNoNewline bytes → request_of bytes ≡ Some request → text_length request ≡ Some (length text)
+    → Takes old mid (IsLine bytes) → Takes mid new (λ t. t ≡ text)
+    → Takes old new (λ taken. Spells taken (Load text))
+takes-load bytes text request old mid new none is len first behind =
+    takes-then (IsLine bytes) (λ t. t ≡ text) (λ taken. Spells taken (Load text)) old mid new first behind
+    (λ s t eq same. rw same (spells-load bytes s text request none is len eq))
 
--- the line of a PUT, and as many bytes as it wants
-pub takes-dropped : (bytes : List ℕ) (len : ℕ) (old mid new : Option (List ℕ)) → HasNoNewline bytes
-    → request_of bytes ≡ Some (line.Put len) →
-    Takes old mid (IsLine bytes) → Takes mid new (λ t. length t ≡ len)
-    → Takes old new (λ taken. (text : List ℕ) × Spells taken (Put text))
-takes-dropped bytes len old mid new none is first behind =
-    takes-then (IsLine bytes) (λ t. length t ≡ len) (λ taken. (text : List ℕ) × Spells taken (Put text)) old
-    mid new first behind
-    (λ s t eq same. (t, spells-put bytes s t none (is ∙ ap (λ n. Some (line.Put n)) (sym same)) eq))
+-- a line, and as many bytes as its text has
+pub takes-dropped : (bytes text : List ℕ) (request : Request) (len : ℕ) (old mid new : Option (List ℕ))
+    → HasNoNewline bytes → request_of bytes ≡ Some request → text_length request ≡ Some len
+    → Takes old mid (IsLine bytes) → Takes mid new (λ t. length t ≡ len)
+    → Takes old new (λ taken. (r : WholeRequest) × Is incoming.Dropped text r × Spells taken r)
+takes-dropped bytes text request len old mid new none is follows first behind =
+    takes-then (IsLine bytes) (λ t. length t ≡ len)
+    (λ taken. (r : WholeRequest) × Is incoming.Dropped text r × Spells taken r) old mid new first behind
+    (λ s t eq same. (
+      Load t,
+      (t, refl),
+      spells-load bytes s t request none is (follows ∙ ap (λ n. Some n) (sym same)) eq,
+    ))
 
--- the line of a PUT, and fewer bytes than it wants
-pub takes-short : (bytes : List ℕ) (len : ℕ) (old mid new : Option (List ℕ)) → HasNoNewline bytes
-    → request_of bytes ≡ Some (line.Put len) →
-    Takes old mid (IsLine bytes) → Takes mid new (λ t. length t < len)
+-- a line, and fewer bytes than its text has
+pub takes-short : (bytes : List ℕ) (request : Request) (len : ℕ) (old mid new : Option (List ℕ))
+    → HasNoNewline bytes → request_of bytes ≡ Some request → text_length request ≡ Some len
+    → Takes old mid (IsLine bytes) → Takes mid new (λ t. length t < len)
     → Takes old new (λ taken. (taken ≢ []) × (first_request taken ≡ None))
-takes-short bytes len old mid new none is first behind =
+takes-short bytes request len old mid new none is follows first behind =
     takes-then (IsLine bytes) (λ t. length t < len) (λ taken. (taken ≢ []) × (first_request taken ≡ None)) old
     mid new first behind
     (λ s t eq short. (
       (λ nil. let l : length (s ++ t) ≡ 0 = ap length nil in
           absurd (omega (arith, l, length-append s t, ap length eq, length-append bytes (10 ∷ [])))),
-      first_request-short bytes s t len none is eq short,
+      first_request-short bytes s t request len none is follows eq short,
     ))

@@ -3,27 +3,32 @@ use Rattle.std.proofs.Common.{◌≡◌, refl, ap, ℕ, zero, suc, ◌+◌, ◌<
 use Rattle.std.proofs.Common.{nat_le, List, [], ◌∷◌, ◌++◌, length, take, drop, Option, None, Some, option_map}
 use Rattle.std.proofs.Common.{unwrap_or, arith, length-drop}
 use Rattle.std.proofs.lemmas.List.Quantifiers.{position-Some}
+use Rattle.session_proto.specs.Request.{text_length}
 use Rattle.session_proto.specs.declared.request.Request.{Request}
 use Rattle.session_proto.specs.declared.request.Request.TheVariants as line
-use Rattle.request_reader.specs.Requests.{WholeRequest, Put, Quit, Front, with_text, line_end, front_at}
-use Rattle.request_reader.specs.Requests.{first_request, rest_only, onto, requests_within, requests_of}
+use Rattle.request_reader.specs.Requests.{WholeRequest, Line, Load, Front, with_text, front_of, line_end}
+use Rattle.request_reader.specs.Requests.{front_at, first_request, rest_only, onto, requests_within}
+use Rattle.request_reader.specs.Requests.{requests_of}
 use Rattle.request_reader.specs.Requests.{AfterQuit}
 use Rattle.request_reader.specs.Incoming.{Spells}
 
-put_behind : (whole : Bool) (len : ℕ) (rest : List ℕ) (f : Front) →
-    (if whole then Some (record { request = Put (take len rest); rest = drop len rest }) else None) ≡ Some f
+text_behind : (whole : Bool) (len : ℕ) (rest : List ℕ) (f : Front) →
+    (if whole then Some (record { request = Load (take len rest); rest = drop len rest }) else None) ≡ Some f
     → length f.rest ≤ length rest
-put_behind true len rest f is = let e : drop len rest ≡ f.rest = cc
+text_behind true len rest f is = let e : drop len rest ≡ f.rest = cc
     in omega (arith, length-drop len rest, ap length e)
-put_behind false len rest f is = cc
+text_behind false len rest f is = cc
 
 -- what is behind a request is no longer than what is behind its line
+behind_front : (request : Request) (len : Option ℕ) (rest : List ℕ) (f : Front)
+    → front_of request len rest ≡ Some f → length f.rest ≤ length rest
+behind_front request None rest f is = let e : rest ≡ f.rest = cc in omega (arith, ap length e)
+behind_front request (Some len) rest f is = text_behind (nat_le len (length rest)) len rest f is
+
 behind_line : (q : Option Request) (rest : List ℕ) (f : Front) → with_text q rest ≡ Some f
     → length f.rest ≤ length rest
 behind_line None rest f is = let e : rest ≡ f.rest = cc in omega (arith, ap length e)
-behind_line (Some line.Quit) rest f is = let e : rest ≡ f.rest = cc in omega (arith, ap length e)
-behind_line (Some (line.Flat id sel a b)) rest f is = let e : rest ≡ f.rest = cc in omega (arith, ap length e)
-behind_line (Some (line.Put len)) rest f is = put_behind (nat_le len (length rest)) len rest f is
+behind_line (Some request) rest f is = behind_front request (text_length request) rest f is
 
 behind_end : (bytes : List ℕ) (end : Option ℕ) → line_end bytes ≡ end → (f : Front)
     → front_at bytes end ≡ Some f → length f.rest < length bytes
@@ -88,6 +93,6 @@ pub requests_of-append : (bytes more : List ℕ) (r : WholeRequest) → Spells b
     → requests_of (bytes ++ more) ≡ onto r (requests_of more)
 requests_of-append bytes more r spells = requests_of-first (bytes ++ more) more r (spells more)
 
-pub requests_of-quit : (bytes more : List ℕ) → Spells bytes Quit
-    → requests_of (bytes ++ more) ≡ record { all = Quit ∷ []; ending = AfterQuit }
-requests_of-quit bytes more spells = requests_of-append bytes more Quit spells
+pub requests_of-quit : (bytes more : List ℕ) → Spells bytes (Line line.Quit)
+    → requests_of (bytes ++ more) ≡ record { all = Line line.Quit ∷ []; ending = AfterQuit }
+requests_of-quit bytes more spells = requests_of-append bytes more (Line line.Quit) spells

@@ -1,5 +1,5 @@
 -- Where the first newline stands in bytes that are put together.
-use Rattle.std.proofs.Common.{◌≡◌, ◌≢◌, refl, ℕ, ◌-◌, ◌<◌, ◌≤◌, false, ◌==◌, List, [], ◌∷◌, ◌++◌, length}
+use Rattle.std.proofs.Common.{◌≡◌, ◌≢◌, refl, ℕ, suc, ◌-◌, ◌<◌, ◌≤◌, false, ◌==◌, List, [], ◌∷◌, ◌++◌, length}
 use Rattle.std.proofs.Common.{get_or, Some, arith, length-append}
 use Rattle.std.specs.List.{position_or_len}
 use Rattle.std.proofs.lemmas.Bool.Decides.{nat_tests}
@@ -49,3 +49,11 @@ append-no_newline xs ys none none_more =
 pub push-no_newline : (bytes : List ℕ) (b : ℕ) → HasNoNewline bytes → b ≢ 10 → HasNoNewline (bytes ++ b ∷ [])
 push-no_newline bytes b none other = append-no_newline bytes (b ∷ []) none
     (no_newline (b ∷ []) (λ k h. let z : k ≡ 0 = omega arith in rw z (grind (arith, nat_tests))))
+
+-- the bytes behind the first, and the first
+pub rest-no_newline : (b : ℕ) (bytes : List ℕ) → HasNoNewline (b ∷ bytes) → HasNoNewline bytes
+rest-no_newline b bytes none = no_newline bytes (λ k h. no_newline_at (b ∷ bytes) none (suc k) (omega arith))
+
+pub not_newline : (b : ℕ) (bytes : List ℕ) → HasNoNewline (b ∷ bytes) → b ≢ 10
+not_newline b bytes none is =
+    let no : (b == 10) ≡ false = no_newline_at (b ∷ bytes) none 0 (omega arith) in grind (arith, nat_tests)

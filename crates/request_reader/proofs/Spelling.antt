@@ -3,11 +3,10 @@ use Rattle.std.proofs.Common.{◌≡◌, refl, ap, ◌∙◌, ℕ, suc, ◌+◌,
 use Rattle.std.proofs.Common.{length, drop, append_assoc, Option, None, Some, arith, length-append}
 use Rattle.std.proofs.lemmas.List.{take_at, drop_at}
 use Rattle.std.proofs.lemmas.Bool.Decides.{nat_tests}
-use Rattle.session_proto.specs.Request.{request_of}
+use Rattle.session_proto.specs.Request.{request_of, text_length}
 use Rattle.session_proto.specs.declared.request.Request.{Request}
-use Rattle.session_proto.specs.declared.request.Sel.{Sel}
-use Rattle.session_proto.specs.declared.request.Request.TheVariants as line
-use Rattle.request_reader.specs.Requests.{Put, Flat, Quit, Unreadable, with_text, front_at, first_request}
+use Rattle.request_reader.specs.Requests.{Line, Load, Unreadable, front_of, with_text, front_at}
+use Rattle.request_reader.specs.Requests.{first_request}
 use Rattle.request_reader.specs.Incoming.{Spells}
 use Rattle.request_reader.specs.Skipping.{HasNoNewline}
 use Rattle.request_reader.proofs.Lines.{line_end-append}
@@ -40,39 +39,39 @@ pub first_request-cut : (bytes : List ℕ) → HasNoNewline bytes → first_requ
 unfolding first_request
 first_request-cut bytes none = ap (λ o. front_at bytes o) none
 
-pub spells-quit : (bytes taken : List ℕ) → HasNoNewline bytes → request_of bytes ≡ Some line.Quit
-    → taken ≡ bytes ++ 10 ∷ [] → Spells taken Quit
-spells-quit bytes taken none is eq = λ more. rw eq (line_behind bytes more (Some line.Quit) none is)
-
 pub spells-unreadable : (bytes taken : List ℕ) → HasNoNewline bytes → request_of bytes ≡ None → taken ≡ bytes
     ++ 10 ∷ [] → Spells taken Unreadable
 spells-unreadable bytes taken none is eq = λ more. rw eq (line_behind bytes more None none is)
 
-pub spells-flat : (bytes taken : List ℕ) (id a b : ℕ) (sel : Sel) → HasNoNewline bytes
-    → request_of bytes ≡ Some (line.Flat id sel a b) →
-    taken ≡ bytes ++ 10 ∷ [] → Spells taken (Flat id a b)
-spells-flat bytes taken id a b sel none is eq =
-    λ more. rw eq (line_behind bytes more (Some (line.Flat id sel a b)) none is)
+-- a line that no text follows is its request
+pub spells-line : (bytes taken : List ℕ) (request : Request) → text_length request ≡ None
+    → HasNoNewline bytes → request_of bytes ≡ Some request → taken ≡ bytes ++ 10 ∷ []
+    → Spells taken (Line request)
+spells-line bytes taken request alone none is eq = λ more.
+    rw eq (line_behind bytes more (Some request) none is ∙ ap (λ o. front_of request o more) alone)
 
-with_put : (text more : List ℕ) → with_text (Some (line.Put (length text))) (text ++ more) ≡ Some
-    (record { request = Put text; rest = more })
-with_put text more =
+with_whole : (request : Request) (text more : List ℕ)
+    → front_of request (Some (length text)) (text ++ more) ≡ Some
+    (record { request = Load text; rest = more })
+with_whole request text more =
     let len = length-append text more in
     let fits : nat_le (length text) (length (text ++ more)) ≡ true = grind (arith, nat_tests) in
     rw (fits, take_at text more (length text) refl, drop_at text more (length text) refl) refl
 
--- a PUT and its bytes
-pub spells-put : (bytes taken text : List ℕ) → HasNoNewline bytes
-    → request_of bytes ≡ Some (line.Put (length text)) →
-    taken ≡ bytes ++ 10 ∷ [] → Spells (taken ++ text) (Put text)
-spells-put bytes taken text none is eq = λ more.
+-- a line and its text
+pub spells-load : (bytes taken text : List ℕ) (request : Request) → HasNoNewline bytes
+    → request_of bytes ≡ Some request → text_length request ≡ Some (length text)
+    → taken ≡ bytes ++ 10 ∷ [] → Spells (taken ++ text) (Load text)
+spells-load bytes taken text request none is len eq = λ more.
     rw (eq, append_assoc (bytes ++ 10 ∷ []) text more)
-    (line_behind bytes (text ++ more) (Some (line.Put (length text))) none is ∙ with_put text more)
+    (line_behind bytes (text ++ more) (Some request) none is
+    ∙ ap (λ o. front_of request o (text ++ more)) len ∙ with_whole request text more)
 
--- a PUT and fewer bytes than it wants
-pub first_request-short : (bytes taken part : List ℕ) (len : ℕ) → HasNoNewline bytes
-    → request_of bytes ≡ Some (line.Put len) →
-    taken ≡ bytes ++ 10 ∷ [] → length part < len → first_request (taken ++ part) ≡ None
-first_request-short bytes taken part len none is eq short =
+-- a line and fewer bytes than its text has
+pub first_request-short : (bytes taken part : List ℕ) (request : Request) (len : ℕ) → HasNoNewline bytes
+    → request_of bytes ≡ Some request → text_length request ≡ Some len
+    → taken ≡ bytes ++ 10 ∷ [] → length part < len → first_request (taken ++ part) ≡ None
+first_request-short bytes taken part request len none is follows eq short =
     let fits : nat_le len (length part) ≡ false = grind (arith, nat_tests) in
-    rw eq (line_behind bytes part (Some (line.Put len)) none is ∙ rw fits refl)
+    rw eq (line_behind bytes part (Some request) none is ∙ ap (λ o. front_of request o part) follows
+    ∙ rw fits refl)

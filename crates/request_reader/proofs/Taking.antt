@@ -2,7 +2,7 @@
 use Rattle.std.proofs.Common.{◌≡◌, refl, ap, ◌∙◌, sym, ℕ, ◌≤◌, List, [], ◌∷◌, ◌++◌, append_assoc, Option}
 use Rattle.std.proofs.Common.{None, Some, arith}
 use Rattle.trace_base.specs.Outside.{Told, Rose}
-use Rattle.request_reader.specs.Incoming.{Takes}
+use Rattle.request_reader.specs.Incoming.{Takes, left_to_read}
 use Rattle.request_reader.specs.Skipping.{NothingLeft}
 
 -- two steps in a row
@@ -56,3 +56,9 @@ takes-so P Q (Some x) None h so = absurd h
 -- a fault after other steps
 pub rose-after : (a b c : ℕ) → a ≤ b → Rose b c → Rose a c
 rose-after a b c h r = grind (arith, r)
+
+-- bytes that waited were taken
+pub takes-moved : (was now moved : List ℕ) (left : Option (List ℕ)) → was ≡ moved ++ now
+    → Takes (left_to_read was left) (left_to_read now left) (λ taken. taken ≡ moved)
+takes-moved was now moved None is = tt
+takes-moved was now moved (Some l) is = (moved, ap (λ x. x ++ l) is ∙ append_assoc moved now l, refl)

@@ -1,14 +1,25 @@
 -- What it means of the bytes that a session was given, and has left to read, that a request comes next.
-use Rattle.std.specs.Prelude.{◌≡◌, ◌≢◌, ℕ, ◌^◌, ◌≤◌, ◌<◌, length, List, [], ◌++◌, Option, None, Some}
+use Rattle.std.specs.Prelude.{◌≡◌, ◌≢◌, ℕ, ◌≤◌, length, List, [], ◌++◌, Option, None, Some, Result, Ok, Err}
 use Rattle.std.specs.Prelude.{option_map}
 use Rattle.trace_base.specs.Outside.{Told}
-use Rattle.request_reader.specs.Requests.{WholeRequest, Put, Flat, Quit, Unreadable, first_request}
+use Rattle.trace_base.specs.declared.limits.TheConstants.{MAX_SMALL_TEXT}
+use Rattle.session_proto.specs.Request.{text_length, IsWithinLimits}
+use Rattle.request_reader.specs.Requests.{WholeRequest, Line, Load, Unreadable, first_request}
 use Rattle.request_reader.specs.declared.incoming.Incoming.{Incoming}
 use Rattle.request_reader.specs.declared.incoming.Incoming.TheVariants as incoming
+use Rattle.request_reader.specs.declared.incoming.InputEnd.{InputEnd}
+use Rattle.request_reader.specs.declared.incoming.InputEnd.TheVariants as ends
 
 -- the bytes are this request and no more, whatever follows them
 abbrev pub Spells : List ℕ → WholeRequest → Type 0
 Spells bytes r = (more : List ℕ) → first_request (bytes ++ more) ≡ Some (record { request = r; rest = more })
+
+-- what came is this request; of a load whose text was dropped only that much is known
+abbrev pub Is : Incoming → List ℕ → WholeRequest → Type 0
+Is (incoming.Line request) text r = r ≡ Line request
+Is incoming.Load text r = r ≡ Load text
+Is incoming.Dropped text r = (bytes : List ℕ) × (r ≡ Load bytes)
+Is incoming.Unreadable text r = r ≡ Unreadable
 
 -- what is left to read: the bytes that were given and wait in the buffer, and those of the source, where it
 -- tells them
@@ -19,36 +30,21 @@ left_to_read pending left = option_map (λ l. pending ++ l) left
 abbrev pub Takes : Option (List ℕ) → Option (List ℕ) → (List ℕ → Type 0) → Type 0
 Takes old new P = Told old new (λ was now. (taken : List ℕ) × (was ≡ taken ++ now) × P taken)
 
--- What comes next is what the bytes taken spell. Where the source ends or fails, they have no whole request.
-abbrev pub Comes : Option (List ℕ) → Option (List ℕ) → List ℕ → Incoming → Type 0
-Comes old new text incoming.Put = Takes old new (λ taken. Spells taken (Put text))
-Comes old new text incoming.Dropped = Takes old new (λ taken. (bytes : List ℕ) × Spells taken (Put bytes))
-Comes old new text (incoming.Flat id a b) = Takes old new (λ taken. Spells taken (Flat id a b))
-Comes old new text incoming.Quit = Takes old new (λ taken. Spells taken Quit)
-Comes old new text incoming.Unreadable = Takes old new (λ taken. Spells taken Unreadable)
-Comes old new text incoming.End = Told old new (λ was now. (was ≡ []) × (now ≡ []))
-Comes old new text incoming.Cut = Takes old new (λ taken. (taken ≢ []) × (first_request taken ≡ None))
+-- the input ended between two requests, inside one, or by a failure; the bytes taken have no whole request
+abbrev pub EndsInput : Option (List ℕ) → Option (List ℕ) → InputEnd → Type 0
+EndsInput old new ends.End = Told old new (λ was now. (was ≡ []) × (now ≡ []))
+EndsInput old new ends.Cut = Takes old new (λ taken. (taken ≢ []) × (first_request taken ≡ None))
     × (new ≢ None → new ≡ Some [])
-Comes old new text incoming.Failed = Takes old new (λ taken. first_request taken ≡ None)
+EndsInput old new ends.Failed = Takes old new (λ taken. first_request taken ≡ None)
 
--- whether no byte waits in the buffer then: the source was asked and gave none
-abbrev pub EmptiesBuffer : Incoming → List ℕ → Type 0
-EmptiesBuffer incoming.End pending = pending ≡ []
-EmptiesBuffer incoming.Cut pending = pending ≡ []
-EmptiesBuffer incoming.Failed pending = pending ≡ []
-EmptiesBuffer incoming.Put pending = Unit {0}
-EmptiesBuffer incoming.Dropped pending = Unit {0}
-EmptiesBuffer (incoming.Flat id a b) pending = Unit {0}
-EmptiesBuffer incoming.Quit pending = Unit {0}
-EmptiesBuffer incoming.Unreadable pending = Unit {0}
+-- what came is what the bytes taken spell, or the input ended
+abbrev pub Comes : Option (List ℕ) → Option (List ℕ) → List ℕ → Result Incoming InputEnd → Type 0
+Comes old new text (Ok i) = Takes old new (λ taken. (r : WholeRequest) × Is i text r × Spells taken r)
+Comes old new text (Err end) = EndsInput old new end
 
--- the numbers of a query are those that a request line may have
-abbrev pub IsWithinLimits : Incoming → List ℕ → Type 0
-IsWithinLimits incoming.Put text = length text ≤ 65536
-IsWithinLimits (incoming.Flat id a b) text = (a < b) × (b ≤ 2 ^ 62)
-IsWithinLimits incoming.Dropped text = Unit {0}
-IsWithinLimits incoming.Quit text = Unit {0}
-IsWithinLimits incoming.Unreadable text = Unit {0}
-IsWithinLimits incoming.End text = Unit {0}
-IsWithinLimits incoming.Cut text = Unit {0}
-IsWithinLimits incoming.Failed text = Unit {0}
+-- no text follows the line of a request, its numbers are within their limits, and a text isn't too long
+abbrev pub ComesWithinLimits : Incoming → List ℕ → Type 0
+ComesWithinLimits (incoming.Line request) text = (text_length request ≡ None) × IsWithinLimits request
+ComesWithinLimits incoming.Load text = length text ≤ MAX_SMALL_TEXT
+ComesWithinLimits incoming.Dropped text = Unit {0}
+ComesWithinLimits incoming.Unreadable text = Unit {0}

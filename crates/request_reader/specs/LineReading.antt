@@ -1,6 +1,7 @@
 -- What it means that a line was read.
 use Rattle.std.specs.Prelude.{◌≡◌, ◌≢◌, ℕ, ◌<◌, List, [], ◌∷◌, ◌++◌, length, Option}
 use Rattle.trace_base.specs.Outside.{Told}
+use Rattle.trace_base.specs.declared.limits.TheConstants.{MAX_REQUEST_LINE}
 use Rattle.request_reader.specs.Incoming.{Takes}
 use Rattle.request_reader.specs.Skipping.{HasNoNewline, NothingLeft}
 use Rattle.request_reader.specs.declared.read_line.LineEnd.{LineEnd}
@@ -8,7 +9,8 @@ use Rattle.request_reader.specs.declared.read_line.LineEnd.TheVariants.{Whole, L
 
 -- a line that is too long for a request, with its newline
 abbrev pub IsLongLine : List ℕ → Type 0
-IsLongLine bytes = (line : List ℕ) × (bytes ≡ line ++ 10 ∷ []) × HasNoNewline line × (4096 < length line)
+IsLongLine bytes = (line : List ℕ) × (bytes ≡ line ++ 10 ∷ []) × HasNoNewline line
+    × (MAX_REQUEST_LINE < length line)
 
 -- The bytes taken are the line with its newline. Where the source ends or fails, they have no newline.
 abbrev pub ReadsLine : Option (List ℕ) → Option (List ℕ) → List ℕ → LineEnd → Type 0
@@ -25,3 +27,11 @@ EmptiesAtEnd Long pending = Unit {0}
 EmptiesAtEnd Nothing pending = pending ≡ []
 EmptiesAtEnd Cut pending = pending ≡ []
 EmptiesAtEnd Failed pending = pending ≡ []
+
+-- it was the line that waited, whole or too long
+abbrev pub ReadsWaiting : List ℕ → List ℕ → LineEnd → Type 0
+ReadsWaiting waited line Whole = line ≡ waited
+ReadsWaiting waited line Long = MAX_REQUEST_LINE < length waited
+ReadsWaiting waited line Nothing = ⊥
+ReadsWaiting waited line Cut = ⊥
+ReadsWaiting waited line Failed = ⊥

@@ -1,15 +1,14 @@
 -- How the bytes that a session reads are cut into requests.
 use Rattle.std.specs.Prelude.{ℕ, zero, suc, unwrap_or, ◌+◌, ◌==◌, nat_le, if◌then◌else◌, List, [], ◌∷◌}
 use Rattle.std.specs.Prelude.{length, take, drop, position, Option, None, Some, option_map}
-use Rattle.session_proto.specs.Request.{request_of}
+use Rattle.session_proto.specs.Request.{request_of, text_length}
 use Rattle.session_proto.specs.declared.request.Request.{Request}
 use Rattle.session_proto.specs.declared.request.Request.TheVariants as line
 
--- A whole request: a trace text to open, a query, the end of the session, or a line that is none of these.
+-- A whole request: a request line that no bytes follow, the text of a load, or a line that is no request.
 pub data WholeRequest : Type 0 where
-  Put : (text : List ℕ) → WholeRequest
-  Flat : (id a b : ℕ) → WholeRequest
-  Quit : WholeRequest
+  Line : (request : Request) → WholeRequest
+  Load : (text : List ℕ) → WholeRequest
   Unreadable : WholeRequest
 
 -- a request, and the bytes behind it
@@ -17,14 +16,17 @@ pub record Front : Type 0 where
   pub request : WholeRequest
   pub rest : List ℕ
 
--- the request of a line; the bytes of a PUT follow it
+-- the request of a line that so many bytes of text follow, or none
+abbrev pub front_of : Request → Option ℕ → List ℕ → Option Front
+front_of request None rest = Some (record { request = Line request; rest = rest })
+front_of request (Some len) rest =
+    if nat_le len (length rest) then Some (record { request = Load (take len rest); rest = drop len rest })
+    else None
+
+-- the request of a line, with the text behind it
 abbrev pub with_text : Option Request → List ℕ → Option Front
 with_text None rest = Some (record { request = Unreadable; rest = rest })
-with_text (Some line.Quit) rest = Some (record { request = Quit; rest = rest })
-with_text (Some (line.Flat id sel a b)) rest = Some (record { request = Flat id a b; rest = rest })
-with_text (Some (line.Put len)) rest =
-    if nat_le len (length rest) then Some (record { request = Put (take len rest); rest = drop len rest })
-    else None
+with_text (Some request) rest = front_of request (text_length request) rest
 
 -- the place of the first newline
 abbrev pub line_end : List ℕ → Option ℕ
@@ -57,10 +59,8 @@ rest_only (b ∷ bs) = record { all = []; ending = Inside }
 
 -- one request more in front of those that follow it; none follows QUIT
 abbrev pub onto : WholeRequest → Requests → Requests
-onto Quit behind = record { all = Quit ∷ []; ending = AfterQuit }
-onto (Put text) behind = record { all = Put text ∷ behind.all; ending = behind.ending }
-onto (Flat id a b) behind = record { all = Flat id a b ∷ behind.all; ending = behind.ending }
-onto Unreadable behind = record { all = Unreadable ∷ behind.all; ending = behind.ending }
+onto (Line line.Quit) behind = record { all = Line line.Quit ∷ []; ending = AfterQuit }
+onto request behind = record { all = request ∷ behind.all; ending = behind.ending }
 
 -- the requests, at most n of them
 unfoldable pub requests_within : ℕ → List ℕ → Requests

@@ -1,6 +1,8 @@
 //! The definitions, computed. Each clause is the equation; the bodies are empty.
 ghost use Rattle.std.specs.Prelude.{◌≡◌, [], ◌∷◌, ◌++◌, None, Some, codes};
-ghost use Rattle.request_reader.specs.Requests.{requests_of, Put, Flat, Quit, Unreadable, AfterQuit, Between};
+ghost use Rattle.session_proto.specs.declared.request.Request.TheVariants.{Flat, Quit};
+ghost use Rattle.session_proto.specs.declared.request.Sel.TheVariants.{All};
+ghost use Rattle.request_reader.specs.Requests.{requests_of, Line, Load, Unreadable, AfterQuit, Between};
 ghost use Rattle.request_reader.specs.Requests.{Inside};
 
 /// Bytes, cut into requests: a text is no line, bytes behind QUIT belong to none, and a line may be cut
@@ -8,11 +10,14 @@ ghost use Rattle.request_reader.specs.Requests.{Inside};
 #[tactic(auto, unfolding(session_proto::specs::Request::number_of, session_proto::specs::Request::words_of, session_proto::specs::Request::request_of, crate::specs::Requests::first_request, crate::specs::Requests::requests_within, crate::specs::Requests::requests_of))]
 pub fn requests_of_bytes()
     ensures whole { requests_of (codes "PUT 5\nQUIT\nFLAT 1 * 0 9\nLIST\nQUIT\nmore")
-        ≡ record { all = Put (codes "QUIT\n") ∷ Flat 1 0 9 ∷ Unreadable ∷ Quit ∷ []; ending = AfterQuit } }
+        ≡ record {
+          all = Load (codes "QUIT\n") ∷ Line (Flat 1 All 0 9) ∷ Unreadable ∷ Line Quit ∷ [];
+          ending = AfterQuit;
+        } }
     ensures between { requests_of (codes "\n") ≡ record { all = Unreadable ∷ []; ending = Between } }
     ensures inside { requests_of (codes "PUT 9\nshort") ≡ record { all = []; ending = Inside } }
     ensures over_the_limit { requests_of (codes "PUT 65537\nQUIT\n") ≡ record {
-      all = Unreadable ∷ Quit
+      all = Unreadable ∷ Line Quit
           ∷ [];
       ending = AfterQuit;
     } }

@@ -15,7 +15,7 @@ mod skip;
 mod tests;
 
 pub use buffer::InputBuf;
-pub use incoming::Incoming;
+pub use incoming::{Incoming, InputEnd};
 pub use laws::{requests_of_more, requests_of_rest};
 pub use line::Line;
 pub use pending::Pending;

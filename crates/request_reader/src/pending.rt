@@ -36,7 +36,8 @@ impl Model for Pending {
 }
 
 impl Pending {
-    ghost use Rattle.std.specs.Prelude.{◌≡◌, ◌+◌, ◌≤◌, [], ◌∷◌, IfOk, MatchOption, vec_len, vec_capacity};
+    ghost use Rattle.std.specs.Prelude.{◌≡◌, ◌+◌, ◌≤◌, ℕ, List, [], ◌∷◌, IfOk, MatchOption, vec_len};
+    ghost use Rattle.std.specs.Prelude.{vec_capacity};
     ghost use Rattle.trace_base.specs.Outside.{Rose};
     ghost use Rattle.trace_base.specs.declared.source.ReadAnswer.TheVariants as answer;
     ghost use Rattle.request_reader.specs.Incoming.{left_to_read};
@@ -108,11 +109,14 @@ impl Pending {
         answer
     }
 
-    /// Takes the next byte: the first that waits, or else the first of what the source gives.
+    /// Takes the next byte: the first that waits, or else the first of what the source gives, which is asked
+    /// only where none waits.
     pub fn next_byte<I: Source>(&mut self, input: &mut I) -> NextByte
         ensures gives { GivesByte (left_to_read self.old (I.left input.old))
             (left_to_read self.new (I.left input.new)) result }
         ensures empties { LeavesNone result self.new }
+        ensures unasked { (first : ℕ) (rest : List ℕ) → self.old ≡ first ∷ rest
+            → (result ≡ byte.Byte first) × (self.new ≡ rest) × (input.new ≡ input.old) }
         ensures later { I.faults input.old ≤ I.faults input.new }
         ensures cause { result ≡ byte.Failed → Rose (I.faults input.old) (I.faults input.new) }
     {

@@ -1,7 +1,8 @@
-ghost use Rattle.std.specs.Prelude.{◌≡◌, ◌≤◌};
+ghost use Rattle.std.specs.Prelude.{◌≡◌, ◌≤◌, ℕ, List, ◌∷◌, ◌++◌};
 ghost use Rattle.trace_base.specs.Outside.{Rose};
 ghost use Rattle.request_reader.specs.Incoming.{left_to_read};
-ghost use Rattle.request_reader.specs.LineReading.{ReadsLine, EmptiesAtEnd};
+ghost use Rattle.request_reader.specs.LineReading.{ReadsLine, EmptiesAtEnd, ReadsWaiting};
+ghost use Rattle.request_reader.specs.Skipping.{HasNoNewline};
 ghost use Rattle.request_reader.specs.declared.read_line.LineEnd.TheVariants.{Failed};
 
 use crate::line::Line;
@@ -25,7 +26,7 @@ pub enum LineEnd {
     Failed,
 }
 
-/// Reads a line with its newline. It may wait for input.
+/// Reads a line with its newline. It may wait for input. Where all of it waits, the source isn't asked.
 pub fn read_line<R: Wait, I: Source>(
     rt: &R,
     input: &mut I,
@@ -36,6 +37,8 @@ pub fn read_line<R: Wait, I: Source>(
         (left_to_read pending.old (I.left input.old)) (left_to_read pending.new (I.left input.new)) line.new
         result }
     ensures empties { EmptiesAtEnd result pending.new }
+    ensures unasked { (waited rest : List ℕ) → HasNoNewline waited → pending.old ≡ waited ++ 10 ∷ rest
+        → ReadsWaiting waited line.new result × (pending.new ≡ rest) × (input.new ≡ input.old) }
     ensures later { I.faults input.old ≤ I.faults input.new }
     ensures cause { result ≡ Failed → Rose (I.faults input.old) (I.faults input.new) }
 {

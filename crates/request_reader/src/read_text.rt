@@ -1,4 +1,4 @@
-ghost use Rattle.std.specs.Prelude.{◌≡◌, ◌≤◌};
+ghost use Rattle.std.specs.Prelude.{◌≡◌, ◌≤◌, length};
 ghost use Rattle.trace_base.specs.Outside.{Rose};
 ghost use Rattle.request_reader.specs.Incoming.{left_to_read};
 ghost use Rattle.request_reader.specs.TextReading.{ReadsText, EmptiesInText};
@@ -21,7 +21,7 @@ pub enum TextEnd {
     Failed,
 }
 
-/// Reads this many bytes, in place of what the text holds.
+/// Reads this many bytes, in place of what the text holds. Where they wait, the source isn't asked.
 pub fn read_text<I: Source>(
     input: &mut I,
     pending: &mut Pending,
@@ -32,6 +32,7 @@ pub fn read_text<I: Source>(
         (left_to_read pending.old (I.left input.old)) (left_to_read pending.new (I.left input.new))
         text.new.items result }
     ensures empties { EmptiesInText result pending.new }
+    ensures unasked { len ≤ length pending.old → input.new ≡ input.old }
     ensures later { I.faults input.old ≤ I.faults input.new }
     ensures cause { result ≡ Failed → Rose (I.faults input.old) (I.faults input.new) }
 {

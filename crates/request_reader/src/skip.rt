@@ -1,8 +1,8 @@
-ghost use Rattle.std.specs.Prelude.{◌≡◌, ◌≤◌, ◌<◌, length};
+ghost use Rattle.std.specs.Prelude.{◌≡◌, ◌≤◌, ◌<◌, ℕ, List, ◌∷◌, ◌++◌, length};
 ghost use Rattle.trace_base.specs.Outside.{Rose};
 ghost use Rattle.request_reader.specs.Incoming.{left_to_read};
 ghost use Rattle.request_reader.specs.Skipping.{Skips, EmptiesUnlessWhole, HasNoNewline, IsWholeLine};
-ghost use Rattle.request_reader.specs.declared.skip.Skipped.TheVariants.{Failed};
+ghost use Rattle.request_reader.specs.declared.skip.Skipped.TheVariants.{Whole, Failed};
 
 use crate::pending::{NextByte, Pending};
 use std::sync::Wait;
@@ -19,11 +19,14 @@ pub enum Skipped {
     Failed,
 }
 
-/// Reads the rest of a line, with its newline. It may wait for input.
+/// Reads the rest of a line, with its newline. It may wait for input. Where all of it waits, the source isn't
+/// asked.
 pub fn skip_line<R: Wait, I: Source>(rt: &R, input: &mut I, pending: &mut Pending) -> Skipped
     ensures skips { Skips IsWholeLine HasNoNewline
         (left_to_read pending.old (I.left input.old)) (left_to_read pending.new (I.left input.new)) result }
     ensures empties { EmptiesUnlessWhole result pending.new }
+    ensures unasked { (line rest : List ℕ) → HasNoNewline line → pending.old ≡ line ++ 10 ∷ rest
+        → (result ≡ Whole) × (pending.new ≡ rest) × (input.new ≡ input.old) }
     ensures later { I.faults input.old ≤ I.faults input.new }
     ensures cause { result ≡ Failed → Rose (I.faults input.old) (I.faults input.new) }
 {
@@ -38,11 +41,12 @@ pub fn skip_line<R: Wait, I: Source>(rt: &R, input: &mut I, pending: &mut Pendin
     unreachable!()
 }
 
-/// Reads this many bytes.
+/// Reads this many bytes. Where they wait, the source isn't asked.
 pub fn skip_bytes<I: Source>(input: &mut I, pending: &mut Pending, count: usize) -> Skipped
     ensures skips { Skips (λ taken. length taken ≡ count) (λ taken. length taken < count)
         (left_to_read pending.old (I.left input.old)) (left_to_read pending.new (I.left input.new)) result }
     ensures empties { EmptiesUnlessWhole result pending.new }
+    ensures unasked { count ≤ length pending.old → (result ≡ Whole) × (input.new ≡ input.old) }
     ensures later { I.faults input.old ≤ I.faults input.new }
     ensures cause { result ≡ Failed → Rose (I.faults input.old) (I.faults input.new) }
 {

@@ -1,9 +1,32 @@
 //! What no clause says: that requests come at all, and where a session's bytes are cut.
-use crate::{Incoming, InputBuf, next_request};
+use crate::{Incoming, InputBuf, InputEnd, next_request};
+use session_proto::{Request, Sel};
 use std::alloc::Global;
 use std::sync::Wait;
 use std::test::Fail;
 use trace_base::{MemSource, Seq};
+
+/// What comes, or how the input ends.
+type Came = Result<Incoming, InputEnd>;
+
+const LOAD: Came = Ok(Incoming::Load);
+
+const FLAT: Came = Ok(Incoming::Line(Request::Flat {
+    id: 7,
+    sel: Sel::All,
+    a: 0,
+    b: 1,
+}));
+
+const QUIT: Came = Ok(Incoming::Line(Request::Quit));
+
+const UNREADABLE: Came = Ok(Incoming::Unreadable);
+
+const END: Came = Err(InputEnd::End);
+
+const CUT: Came = Err(InputEnd::Cut);
+
+const FAILED: Came = Err(InputEnd::Failed);
 
 /// What comes of these bytes, up to the end of the source or its first failure. `fails` lists the calls that
 /// fail.
@@ -12,7 +35,7 @@ fn incoming_of(
     alloc: Global,
     bytes: &[u8],
     fails: &[u64],
-) -> Result<Vec<Incoming>, Fail> {
+) -> Result<Vec<Came>, Fail> {
     let mut input = MemSource::new(
         Seq::from_slice(alloc, bytes)?,
         Seq::from_slice(alloc, fails)?,
@@ -22,36 +45,33 @@ fn incoming_of(
     for _ in 0..100 {
         let next = next_request(rt, &mut input, &mut buf);
         all.push(next)?;
-        if matches!(next, Incoming::End | Incoming::Cut | Incoming::Failed) {
+        if next.is_err() {
             break;
         }
     }
     Ok(all)
 }
 
-const FLAT: Incoming = Incoming::Flat { id: 7, a: 0, b: 1 };
-
 #[test]
 fn requests_and_ends(rt: HostRuntime) -> Result<(), Fail> {
-    use Incoming::{Cut, End, Put, Quit, Unreadable};
-    let rows: [(&[u8], &[Incoming]); 11] = [
-        (b"", &[End]),
-        (b"\n", &[Unreadable, End]),
-        (b"QUIT", &[Cut]),
-        (b"QUIT\n", &[Quit, End]),
+    let rows: [(&[u8], &[Came]); 11] = [
+        (b"", &[END]),
+        (b"\n", &[UNREADABLE, END]),
+        (b"QUIT", &[CUT]),
+        (b"QUIT\n", &[QUIT, END]),
         (
             b"PUT 5\nQUIT\nFLAT 7 * 0 1\nLIST\nQUIT\nmore",
-            &[Put, FLAT, Unreadable, Quit, Cut],
+            &[LOAD, FLAT, UNREADABLE, QUIT, CUT],
         ),
-        (b"PUT 9\nshort", &[Cut]),
-        (b"PUT 9\n", &[Cut]),
-        (b"PUT 0\n", &[Put, End]),
-        (b"PUT 65537\nFLAT 7 * 0 1\n", &[Unreadable, FLAT, End]),
+        (b"PUT 9\nshort", &[CUT]),
+        (b"PUT 9\n", &[CUT]),
+        (b"PUT 0\n", &[LOAD, END]),
+        (b"PUT 65537\nFLAT 7 * 0 1\n", &[UNREADABLE, FLAT, END]),
         (
             b"FLAT 01 * 0 5\nLIST \nFLAT 7 * 1 1\nQUIT\n",
-            &[Unreadable, Unreadable, Unreadable, Quit, End],
+            &[UNREADABLE, UNREADABLE, UNREADABLE, QUIT, END],
         ),
-        (b"PUT 2\n\n\n\n", &[Put, Unreadable, End]),
+        (b"PUT 2\n\n\n\n", &[LOAD, UNREADABLE, END]),
     ];
     for (bytes, want) in rows {
         let got = incoming_of(&rt, rt.alloc(), bytes, &[])?;
@@ -67,12 +87,8 @@ fn cut_at_every_byte(rt: HostRuntime) -> Result<(), Fail> {
         let got = incoming_of(&rt, rt.alloc(), &bytes[..cut], &[])?;
         let whole = [9, 22, 27].iter().filter(|end| **end <= cut).count();
         let between = matches!(cut, 0 | 9 | 22 | 27);
-        let end = if between {
-            Incoming::End
-        } else {
-            Incoming::Cut
-        };
-        let all = [Incoming::Put, FLAT, Incoming::Quit];
+        let end = if between { END } else { CUT };
+        let all = [LOAD, FLAT, QUIT];
         assert_eq!(rt; got.len(), whole + 1, "at {cut}");
         assert_eq!(rt; got.last().copied(), Some(end), "at {cut}");
         for (at, want) in all.iter().enumerate() {
@@ -86,12 +102,11 @@ fn cut_at_every_byte(rt: HostRuntime) -> Result<(), Fail> {
 
 #[test]
 fn failed_reads(rt: HostRuntime) -> Result<(), Fail> {
-    use Incoming::{Failed, Quit};
-    let rows: [(&[u8], &[u64], &[Incoming]); 4] = [
-        (b"QUIT\n", &[0], &[Failed]),
-        (b"QUIT\n", &[1], &[Quit, Failed]),
-        (b"FLAT 7 * 0", &[1], &[Failed]),
-        (b"PUT 9\nshort", &[1], &[Failed]),
+    let rows: [(&[u8], &[u64], &[Came]); 4] = [
+        (b"QUIT\n", &[0], &[FAILED]),
+        (b"QUIT\n", &[1], &[QUIT, FAILED]),
+        (b"FLAT 7 * 0", &[1], &[FAILED]),
+        (b"PUT 9\nshort", &[1], &[FAILED]),
     ];
     for (bytes, fails, want) in rows {
         let got = incoming_of(&rt, rt.alloc(), bytes, fails)?;
@@ -103,18 +118,17 @@ fn failed_reads(rt: HostRuntime) -> Result<(), Fail> {
 /// Lines of many lengths, each with a request behind it, which the end of a chunk may cut in two.
 #[test]
 fn long_lines(rt: HostRuntime) -> Result<(), Fail> {
-    use Incoming::{End, Unreadable};
     for len in [4_095, 4_096, 4_097, 65_526, 65_535, 65_536, 1_000_000] {
         let mut bytes = vec![in rt.alloc(); b'x'; len]?;
         bytes.extend_from_slice(b"\nFLAT 7 * 0 1\n")?;
         let got = incoming_of(&rt, rt.alloc(), bytes.as_slice(), &[])?;
         assert_eq!(rt;
             got.as_slice(),
-            [Unreadable, FLAT, End].as_slice(),
+            [UNREADABLE, FLAT, END].as_slice(),
             "of {len}"
         );
         let cut = incoming_of(&rt, rt.alloc(), &bytes.as_slice()[..len], &[])?;
-        assert_eq!(rt; cut.as_slice(), [Incoming::Cut].as_slice(), "of {len}");
+        assert_eq!(rt; cut.as_slice(), [CUT].as_slice(), "of {len}");
     }
     Ok(())
 }
@@ -132,11 +146,11 @@ fn texts(rt: HostRuntime) -> Result<(), Fail> {
         Seq::new(rt.alloc()),
     );
     let mut buf = InputBuf::new(rt.alloc())?;
-    assert_eq!(rt; next_request(&rt, &mut input, &mut buf), Incoming::Put);
+    assert_eq!(rt; next_request(&rt, &mut input, &mut buf), LOAD);
     assert_eq!(rt; buf.text.as_slice(), text.as_slice());
-    assert_eq!(rt; next_request(&rt, &mut input, &mut buf), Incoming::Put);
+    assert_eq!(rt; next_request(&rt, &mut input, &mut buf), LOAD);
     assert_eq!(rt; buf.text.as_slice(), b"abc".as_slice());
     buf.clear();
-    assert_eq!(rt; next_request(&rt, &mut input, &mut buf), Incoming::End);
+    assert_eq!(rt; next_request(&rt, &mut input, &mut buf), END);
     Ok(())
 }

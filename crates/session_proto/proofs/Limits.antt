@@ -1,12 +1,12 @@
 -- The limits of the numbers in a request line.
-use Rattle.std.proofs.Common.{◌≡◌, refl, ℕ, ◌<◌, Bool, true, false, ◌&&◌, nat_le, nat_lt}
+use Rattle.std.proofs.Common.{◌≡◌, refl, ℕ, ◌<◌, ◌≤◌, Bool, true, false, ◌&&◌, nat_le, nat_lt}
 use Rattle.std.proofs.Common.{if◌then◌else◌, List, [], ◌∷◌, length, Option, None, Some, arith}
 use Rattle.std.specs.Prelude.{codes, IfSome}
 use Rattle.std.specs.Str.{bytes_eq}
 use Rattle.std.proofs.lemmas.Bool.Decides.{nat_tests}
 use Rattle.trace_base.specs.declared.limits.TheConstants.{MAX_SMALL_TEXT, MAX_REQUEST_LINE, MAX_TIME}
 use Rattle.session_proto.specs.Request.{request_of, request_of_words, words_of, number_of, put_of, flat_of}
-use Rattle.session_proto.specs.Request.{IsWithinLimits}
+use Rattle.session_proto.specs.Request.{IsWithinLimits, text_length}
 use Rattle.session_proto.specs.declared.request.Request.{Request}
 use Rattle.session_proto.specs.declared.request.Request.TheVariants.{Put, Flat, Quit}
 use Rattle.session_proto.specs.declared.request.Sel.TheVariants.{All}
@@ -61,3 +61,9 @@ pub request_of-long : (bytes : List ℕ) → MAX_REQUEST_LINE < length bytes →
 unfolding request_of
 request_of-long bytes long =
     let no : nat_le (length bytes) MAX_REQUEST_LINE ≡ false = grind (arith, nat_tests) in rw no refl
+
+-- so is the length of its text
+pub text_limited : (request : Request) (len : ℕ) → IsWithinLimits request → text_length request ≡ Some len
+    → len ≤ MAX_SMALL_TEXT
+text_limited (Put n) len limited is = let same : n ≡ len = cc in omega (arith, same, limited)
+text_limited request len limited is = absurd (cc)

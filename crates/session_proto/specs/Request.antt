@@ -54,10 +54,10 @@ request_of_words (verb ∷ id ∷ sel ∷ a ∷ b ∷ more ∷ words) = None
 unfoldable pub request_of : List ℕ → Option Request
 request_of line = if nat_le (length line) MAX_REQUEST_LINE then request_of_words (words_of line) else None
 
--- the line is the whole request: no bytes follow it
-abbrev pub HasNoText : Request → Type 0
-HasNoText (Put len) = ⊥
-HasNoText request = Unit {0}
+-- how many bytes of text follow the line; none where the line is the whole request
+abbrev pub text_length : Request → Option ℕ
+text_length (Put len) = Some len
+text_length request = None
 
 -- the numbers of the request are within their limits
 abbrev pub IsWithinLimits : Request → Type 0

@@ -19,11 +19,26 @@ pub enum Sel {
 pub enum Request {
     /// `PUT len`: a trace text of so many bytes follows, at most `MAX_SMALL_TEXT`.
     Put(u64),
-    /// `FLAT id * a b`: the flat profile of a trace over the half-open interval [a, b), in nanoseconds; b is at
-    /// most `MAX_TIME`.
+    /// `FLAT id * a b`: the flat profile of a trace over the half-open interval [a, b), in nanoseconds; b is
+    /// at most `MAX_TIME`.
     Flat { id: u64, sel: Sel, a: u64, b: u64 },
     /// `QUIT`: the session ends.
     Quit,
+}
+
+impl Request {
+    ghost use Rattle.std.specs.Prelude.{◌≡◌};
+    ghost use Rattle.session_proto.specs.Request.{text_length};
+
+    /// How many bytes of text follow the line; `None` where the line is the whole request.
+    pub fn text_len(&self) -> Option<u64>
+        ensures { result ≡ text_length self.now }
+    {
+        match self {
+            Request::Put(len) => Some(*len),
+            Request::Flat { .. } | Request::Quit => None,
+        }
+    }
 }
 
 /// The request that a line is, without its newline; `None` where it is none. A line of more than

@@ -4,18 +4,20 @@ use Rattle.std.proofs.Common.{ap, ◌∙◌, subst, append_assoc}
 use Rattle.std.proofs.lemmas.List.{append-nil}
 use Rattle.trace_base.specs.Outside.{Told}
 use Rattle.hall_trait.specs.History.{IsLegalHistory}
-use Rattle.hall_trait.specs.Seat.{Seat, Begins}
+use Rattle.hall_trait.specs.Seat.{Begins}
 use Rattle.session_proto.specs.Reply.{reply_text}
 use Rattle.session_proto.specs.declared.reply.Reply.{Reply}
 use Rattle.request_reader.proofs.Cutting.{requests_of-append, requests_of-quit, requests_of-none}
-use Rattle.request_reader.specs.Incoming.{Spells, left_to_read}
-use Rattle.request_reader.specs.Requests.{WholeRequest, Put, Flat, Quit, Unreadable, Requests, Ending}
+use Rattle.request_reader.specs.Incoming.{Spells, Takes, left_to_read}
+use Rattle.session_proto.specs.declared.request.Request.TheVariants.{Quit}
+use Rattle.request_reader.specs.Requests.{WholeRequest, Line, Requests, Ending}
 use Rattle.request_reader.specs.Requests.{AfterQuit, Between, Inside, requests_of, rest_only, onto}
 use Rattle.request_reader.specs.Requests.{first_request}
 use Rattle.trace_session.specs.Output.{WritesFront}
 use Rattle.trace_session.specs.Served.{Served}
 use Rattle.trace_session.specs.Session.{IsSession, ReadsRequests, WritesReplies, Answers, LeavesNothing}
 use Rattle.trace_session.specs.Session.{requests_served}
+use Rattle.trace_session.specs.State.{Store, SessionState}
 use Rattle.trace_session.specs.Step.{Steps, TakesOne, TakesNone}
 use Rattle.trace_session.specs.declared.sessions.End.{End}
 use Rattle.trace_session.specs.declared.sessions.End.TheVariants as ends
@@ -50,27 +52,31 @@ taken_then served Q a b c =
       q.2,
     ))
 
--- the source ended or failed, and nothing waits
-pub ended : (end : End) (Q : List ℕ → List ℕ → Type 0) (alone : Bool) (old now new : Seat)
-    (limits mid limits' left midway src held written held' : Option (List ℕ)) (pending : List ℕ)
-    → (s : Sofar alone old now limits mid left midway held written) → TakesNone now new mid limits' midway
-    (left_to_read pending src) written held' Q → pending ≡ []
+-- what was done stays done where nothing more is
+done_still : (alone : Bool) (old now new : Store) (served : List Served) → new ≡ now
+    → Done alone old now served
+    → Done alone old new served
+done_still alone old now new served same d = subst (λ (n : Store). Done alone old n served) (sym same) d
+
+-- the source ended or failed, and nothing waits; `src` is what the source has left
+ended : (end : End) (Q : List ℕ → List ℕ → Type 0) (alone : Bool) (old now new : SessionState)
+    (src : Option (List ℕ)) (pending : List ℕ) → new.left ≡ left_to_read pending src
+    → (s : Sofar alone old now) → TakesNone now new Q → pending ≡ []
     → ((given bytes is : List ℕ) → Spell given (requests_served s.served) → first_request bytes ≡ None
     → Q bytes is → Answers end (requests_of (given ++ bytes)) s.served)
     → ((bytes is : List ℕ) → Q bytes is → LeavesNothing end is)
     → ((was is : List ℕ) → HasWritten s.served was is → WritesReplies end was is s.served)
-    → IsLegalHistory new.seen → IsSession alone old new limits limits' left src held held' end
-ended end Q alone old now new limits mid limits' left midway src held written held' pending s t none answers
-    leaves writes legal =
-    let seat = subst (λ (n : Seat). Done alone old n limits mid s.served) (sym t.seat) s.done in
-    let d = subst (λ (l : Option (List ℕ)). Done alone old new limits l s.served) (sym t.limits_same) seat in
-    let out = subst (λ (h : Option (List ℕ)). Told held h (HasWritten s.served)) (sym t.held_same) s.output in
-    let took = subst (λ (p : List ℕ). Told midway (left_to_read p src) (λ was is. (bytes : List ℕ)
-    × (was ≡ bytes ++ is) × (first_request bytes ≡ None) × Q bytes is)) none t.taken in
-    let joined = taken_then s.served (λ bytes is. (first_request bytes ≡ None) × Q bytes is) left midway
+    → IsLegalHistory new.store.seat.seen → IsSession alone old (record new { left = src }) end
+ended end Q alone old now new src pending lies s t none answers leaves writes legal =
+    let d = done_still alone old.store now.store new.store s.served t.store s.done in
+    let out = subst (λ (h : Option (List ℕ)). Told old.held h (HasWritten s.served)) (sym t.held) s.output in
+    let is_left : new.left ≡ left_to_read [] src = lies ∙ ap (λ (p : List ℕ). left_to_read p src) none in
+    let took = subst (λ (l : Option (List ℕ)). Told now.left l (λ was is. (bytes : List ℕ)
+    × (was ≡ bytes ++ is) × (first_request bytes ≡ None) × Q bytes is)) is_left t.taken in
+    let joined = taken_then s.served (λ bytes is. (first_request bytes ≡ None) × Q bytes is) old.left now.left
     (left_to_read [] src) s.input (told_as (λ was is. (bytes : List ℕ) × (was ≡ bytes ++ is)
     × (first_request bytes ≡ None) × Q bytes is) (λ was is. (bytes : List ℕ) × (was ≡ bytes ++ is)
-    × ((first_request bytes ≡ None) × Q bytes is)) midway (left_to_read [] src)
+    × ((first_request bytes ≡ None) × Q bytes is)) now.left (left_to_read [] src)
     (λ x y p. (p.0, p.1, (p.2, p.3))) took) in
     record {
       served = s.served;
@@ -83,10 +89,10 @@ ended end Q alone old now new limits mid limits' left midway src held written he
       rest = d.rest;
       records = d.records;
       input = told_pending [] (HasTaken s.served (λ bytes is. (first_request bytes ≡ None) × Q bytes is))
-          (λ was is. ReadsRequests end was is s.served) left src
+          (λ was is. ReadsRequests end was is s.served) old.left src
           (λ x y p. (p.0 ++ p.1, p.2, answers p.0 p.1 y p.3 p.4.0 p.4.1, leaves p.1 y p.4.1)) joined;
-      output = told_as (HasWritten s.served) (λ was is. WritesReplies end was is s.served) held held' writes
-          out;
+      output = told_as (HasWritten s.served) (λ was is. WritesReplies end was is s.served) old.held new.held
+          writes out;
     }
 
 -- the requests of bytes that hold no whole one behind others
@@ -140,25 +146,26 @@ failed_answers served given bytes is spell none q =
       λ closed. rest_open bytes (sym (ap (λ (r : Requests). r.ending) same) ∙ closed),
     )
 
--- a request was the last
-pub one_ended : (end : End) (alone : Bool) (old now new : Seat)
-    (limits mid limits' left midway src held written held' : Option (List ℕ)) (pending : List ℕ)
-    → (s : Sofar alone old now limits mid left midway held written)
-    → (t : TakesOne alone now new mid limits' midway (left_to_read pending src) written held' (Some end))
+-- a request was the last; `src` is what the source has left
+one_ended : (end : End) (alone : Bool) (old now new : SessionState) (src : Option (List ℕ)) (pending : List ℕ)
+    → new.left ≡ left_to_read pending src → (s : Sofar alone old now)
+    → (t : TakesOne alone now new (Some end))
     → ((given bytes : List ℕ) → Spell given (requests_served s.served) → Spells bytes t.request
     → Answers end (requests_of (given ++ bytes ++ pending))
-    (one_more s.served t.request (length now.seen) t.answers.serves.block t.answers.reply))
+    (one_more s.served t.request (length now.store.seat.seen) t.answers.serves.block t.answers.reply))
     → ((is : List ℕ) → LeavesNothing end is)
-    → Told held held' (λ was is. WritesReplies end was is
-    (one_more s.served t.request (length now.seen) t.answers.serves.block t.answers.reply))
-    → IsLegalHistory new.seen → IsSession alone old new limits limits' left src held held' end
-one_ended end alone old now new limits mid limits' left midway src held written held' pending s t answers
-    leaves writes legal =
-    let x = one_more s.served t.request (length now.seen) t.answers.serves.block t.answers.reply in
-    let d = done_more alone old now new limits mid limits' s.served t.request t.answers.reply s.done
+    → Told old.held new.held (λ was is. WritesReplies end was is
+    (one_more s.served t.request (length now.store.seat.seen) t.answers.serves.block t.answers.reply))
+    → IsLegalHistory new.store.seat.seen → IsSession alone old (record new { left = src }) end
+one_ended end alone old now new src pending lies s t answers leaves writes legal =
+    let x = one_more s.served t.request (length now.store.seat.seen) t.answers.serves.block t.answers.reply in
+    let d = done_more alone old.store now.store new.store s.served t.request t.answers.reply s.done
     t.answers.serves in
-    let joined = taken_then s.served (λ bytes is. Spells bytes t.request) left midway
-    (left_to_read pending src) s.input t.taken in
+    let took = subst (λ (l : Option (List ℕ)). Takes now.left l (λ bytes. Spells bytes t.request)) lies
+    t.taken
+    in
+    let joined = taken_then s.served (λ bytes is. Spells bytes t.request) old.left now.left
+    (left_to_read pending src) s.input took in
     record {
       served = x;
       each = d.each;
@@ -170,7 +177,7 @@ one_ended end alone old now new limits mid limits' left midway src held written 
       rest = d.rest;
       records = d.records;
       input = told_pending pending (HasTaken s.served (λ bytes is. Spells bytes t.request))
-          (λ was is. ReadsRequests end was is x) left src
+          (λ was is. ReadsRequests end was is x) old.left src
           (λ a b p. (
             (p.0 ++ p.1) ++ pending,
             p.2 ∙ sym (append_assoc (p.0 ++ p.1) pending b),
@@ -181,11 +188,11 @@ one_ended end alone old now new limits mid limits' left midway src held written 
     }
 
 pub quit_answers : (served : List Served) (request : WholeRequest) (before : ℕ) (block : List ℕ) (r : Reply)
-    (given bytes pending : List ℕ) → request ≡ Quit → Spell given (requests_served served)
+    (given bytes pending : List ℕ) → request ≡ Line Quit → Spell given (requests_served served)
     → Spells bytes request → Answers ends.Quit (requests_of (given ++ bytes ++ pending))
     (one_more served request before block r)
 quit_answers served request before block r given bytes pending is spell spells =
-    let quits : Spells bytes Quit = subst (λ (q : WholeRequest). Spells bytes q) is spells in
+    let quits : Spells bytes (Line Quit) = subst (λ (q : WholeRequest). Spells bytes q) is spells in
     ap requests_of (append_assoc given bytes pending) ∙ spell (bytes ++ pending) ∙ ap
     (in_front (requests_served served)) (requests_of-quit bytes pending quits)
     ∙ ap (λ (l : List WholeRequest). made l) (ap (λ (q : WholeRequest). requests_served served ++ q ∷ [])
@@ -195,10 +202,8 @@ quit_answers served request before block r given bytes pending is spell spells =
     made l = record { all = l; ending = AfterQuit }
 
 onto_begins : (r : WholeRequest) (behind : Requests) → Begins (r ∷ []) (onto r behind).all
-onto_begins (Put text) behind = (behind.all, refl)
-onto_begins (Flat id a b) behind = (behind.all, refl)
-onto_begins Quit behind = ([], refl)
-onto_begins Unreadable behind = (behind.all, refl)
+onto_begins (Line Quit) behind = ([], refl)
+onto_begins r behind = (behind.all, refl)
 
 pub fault_answers : (served : List Served) (request : WholeRequest) (before : ℕ) (block : List ℕ) (r : Reply)
     (given bytes pending : List ℕ) → Spell given (requests_served served) → Spells bytes request
@@ -228,36 +233,33 @@ fault_writes served request before block r a b c =
       subst (λ (l : List ℕ). WritesFront (reply_text r) l z) p q,
     ))
 
--- a step that ends the session
-pub step_ends : (end : End) (alone : Bool) (old now new : Seat)
-    (limits mid limits' left midway src held written held' : Option (List ℕ)) (pending : List ℕ)
-    → Sofar alone old now limits mid left midway held written → Steps alone now new mid limits' midway
-    (left_to_read pending src) written held' pending (Some end) → IsLegalHistory new.seen
-    → IsSession alone old new limits limits' left src held held' end
-step_ends ends.Quit alone old now new limits mid limits' left midway src held written held' pending s t
-    legal =
-    one_ended ends.Quit alone old now new limits mid limits' left midway src held written held' pending s t.0
-    (λ given bytes. quit_answers s.served t.0.request (length now.seen) t.0.answers.serves.block
-    t.0.answers.reply given bytes pending t.1)
+-- a step that ends the session; `src` is what the source has left
+pub step_ends : (end : End) (alone : Bool) (old now new : SessionState) (src : Option (List ℕ))
+    (pending : List ℕ) → new.left ≡ left_to_read pending src → Sofar alone old now
+    → Steps alone now new pending (Some end) → IsLegalHistory new.store.seat.seen
+    → IsSession alone old (record new { left = src }) end
+step_ends ends.Quit alone old now new src pending lies s t legal =
+    one_ended ends.Quit alone old now new src pending lies s t
+    (λ given bytes. quit_answers s.served t.request (length now.store.seat.seen) t.answers.serves.block
+    t.answers.reply given bytes pending t.answers.ends)
     (λ is. tt)
-    (written_more s.served t.0.request (length now.seen) t.0.answers.serves.block t.0.answers.reply held
-    written held' s.output t.0.answers.written) legal
-step_ends ends.WriteFault alone old now new limits mid limits' left midway src held written held' pending s t
-    legal =
-    one_ended ends.WriteFault alone old now new limits mid limits' left midway src held written held' pending
-    s t
-    (λ given bytes. fault_answers s.served t.request (length now.seen) t.answers.serves.block t.answers.reply
-    given bytes pending)
+    (written_more s.served t.request (length now.store.seat.seen) t.answers.serves.block t.answers.reply
+    old.held
+    now.held new.held s.output t.answers.written) legal
+step_ends ends.WriteFault alone old now new src pending lies s t legal =
+    one_ended ends.WriteFault alone old now new src pending lies s t
+    (λ given bytes. fault_answers s.served t.request (length now.store.seat.seen) t.answers.serves.block
+    t.answers.reply given bytes pending)
     (λ is. tt)
-    (fault_writes s.served t.request (length now.seen) t.answers.serves.block t.answers.reply held written
-    held' s.output t.answers.written) legal
-step_ends ends.Eof alone old now new limits mid limits' left midway src held written held' pending s t legal =
-    ended ends.Eof (λ bytes is. (bytes ≡ []) × (is ≡ [])) alone old now new limits mid limits' left midway src
-    held written held' pending s t.0 t.1 (eof_answers s.served) (λ bytes is q. q.1) (λ was is w. w) legal
-step_ends ends.Cut alone old now new limits mid limits' left midway src held written held' pending s t legal =
-    ended ends.Cut (λ bytes is. (bytes ≢ []) × (is ≡ [])) alone old now new limits mid limits' left midway src
-    held written held' pending s t.0 t.1 (cut_answers s.served) (λ bytes is q. q.1) (λ was is w. w) legal
-step_ends ends.ReadFault alone old now new limits mid limits' left midway src held written held' pending s t
-    legal =
-    ended ends.ReadFault (λ bytes is. Unit {0}) alone old now new limits mid limits' left midway src held
-    written held' pending s t.0 t.1 (failed_answers s.served) (λ bytes is q. tt) (λ was is w. w) legal
+    (fault_writes s.served t.request (length now.store.seat.seen) t.answers.serves.block t.answers.reply
+    old.held
+    now.held new.held s.output t.answers.written) legal
+step_ends ends.Eof alone old now new src pending lies s t legal =
+    ended ends.Eof (λ bytes is. (bytes ≡ []) × (is ≡ [])) alone old now new src pending lies s t.0 t.1
+    (eof_answers s.served) (λ bytes is q. q.1) (λ was is w. w) legal
+step_ends ends.Cut alone old now new src pending lies s t legal =
+    ended ends.Cut (λ bytes is. (bytes ≢ []) × (is ≡ [])) alone old now new src pending lies s t.0 t.1
+    (cut_answers s.served) (λ bytes is q. q.1) (λ was is w. w) legal
+step_ends ends.ReadFault alone old now new src pending lies s t legal =
+    ended ends.ReadFault (λ bytes is. Unit {0}) alone old now new src pending lies s t.0 t.1
+    (failed_answers s.served) (λ bytes is q. tt) (λ was is w. w) legal

@@ -1,40 +1,34 @@
 -- A load under way: so many tracks are published.
 use Rattle.std.proofs.Common.{◌≡◌, ℕ, ◌+◌, ◌<◌, suc, Bool, false, eqb, List, [], ◌∷◌, ◌++◌, length, take}
-use Rattle.std.proofs.Common.{slice_get, Option, None, Some, Ok, refl, sym, ap, ◌∙◌, subst, arith}
-use Rattle.std.proofs.Common.{length-append, zero-add}
+use Rattle.std.proofs.Common.{slice_get, Option, None, Some, refl, sym, ap, ◌∙◌, subst, arith}
+use Rattle.std.proofs.Common.{length-append, append-nil, zero-add}
 use Rattle.std.proofs.lemmas.Bool.Decides.{nat_tests}
 use Rattle.std.proofs.Math.Seq.{take-append_seam}
+use Rattle.trace_base.specs.declared.asks.PassState.{PassState}
 use Rattle.trace_base.specs.declared.asks.PassState.TheVariants.{Straight}
 use Rattle.trace_base.specs.declared.names.TraceInfo.{TraceInfo}
 use Rattle.trace_base.specs.declared.stream.TrackStream.{TrackStream}
-use Rattle.hall_trait.specs.Answers.{Keeps, CoversAll, EndsLoad}
+use Rattle.hall_trait.specs.Answers.{CoversAll, MakesLoadEntry, left_after}
 use Rattle.hall_trait.specs.History.{Entry, Published, Sealed, Dropped, FitsTrack, info_of, info_opened}
-use Rattle.hall_trait.specs.Pass.{pass_view, state_at, IsNext, IsFresh}
-use Rattle.hall_trait.specs.Seat.{Seat, PassView, Begins, IsAtRest, Replaces, Removes}
+use Rattle.hall_trait.specs.Pass.{pass_view, state_at, state_after, advanced, IsNext, IsFresh}
+use Rattle.hall_trait.specs.Seat.{Seat, PassView, Begins, IsAtRest, Becomes}
 use Rattle.hall_trait.specs.declared.pass.LoadPass.{LoadPass}
 use Rattle.std.specs.List.{filter_map, cons_option}
-use Rattle.trace_session.specs.Load.{AreTracksOf, Publishes}
-use Rattle.trace_session.specs.Replies.{entry_at}
+use Rattle.trace_session.specs.Load.{AreTracksOf, PublishesAll, GivesUp}
 use Rattle.trace_session.specs.Served.{published_from}
 use Rattle.trace_session.specs.Serving.{Grows}
-use Rattle.trace_session.proofs.Grow.{grows_none, Grows-more, Begins-trans, entry_at_place}
+use Rattle.trace_session.proofs.Grow.{grows_none, Grows-more, Begins-trans}
 
--- where one pass is all that a seat has, it is the one that is replaced or removed
-replaced : {X : Type 0} (x y : X) (ys front back : List X) → x ∷ [] ≡ front ++ x ∷ back → ys ≡ front ++ y
-    ∷ back → ys ≡ y ∷ []
-replaced {X} x y ys [] back was now = let none : [] ≡ back = cc in now ∙ ap (λ (l : List X). y ∷ l) (sym none)
-replaced {X} x y ys (f ∷ fs) back was now = absurd (omega (arith, ap length was, length-append fs (x ∷ back)))
+-- where one item is all that there is, others stand in its stead
+became : {X : Type 0} (x : X) (ys stead front back : List X) → x ∷ [] ≡ front ++ x ∷ back
+    → ys ≡ front ++ (stead ++ back) → ys ≡ stead
+became {X} x ys stead [] back was now =
+    let none : [] ≡ back = cc in now ∙ ap (λ (l : List X). stead ++ l) (sym none) ∙ append-nil stead
+became {X} x ys stead (f ∷ fs) back was now =
+    absurd (omega (arith, ap length was, length-append fs (x ∷ back)))
 
-pub Replaces-one : {X : Type 0} (x y : X) (ys : List X) → Replaces (x ∷ []) ys x y → ys ≡ y ∷ []
-Replaces-one x y ys r = replaced x y ys r.0 r.1 r.2 r.3
-
-removed : {X : Type 0} (x : X) (ys front back : List X) → x ∷ [] ≡ front ++ x ∷ back → ys ≡ front ++ back
-    → ys ≡ []
-removed {X} x ys [] back was now = let none : [] ≡ back = cc in now ∙ sym none
-removed {X} x ys (f ∷ fs) back was now = absurd (omega (arith, ap length was, length-append fs (x ∷ back)))
-
-pub Removes-one : {X : Type 0} (x : X) (ys : List X) → Removes (x ∷ []) ys x → ys ≡ []
-Removes-one x ys r = removed x ys r.0 r.1 r.2 r.3
+pub Becomes-one : {X : Type 0} (x : X) (ys stead : List X) → Becomes (x ∷ []) ys x stead → ys ≡ stead
+Becomes-one x ys stead b = became x ys stead b.front b.back b.was b.now
 
 -- what a trace was opened with stays
 first_option : (o : Option TraceInfo) (is more : List TraceInfo) (info : TraceInfo)
@@ -56,12 +50,13 @@ info_of-more entries more id info is = first-more (info_opened id) entries more 
 
 pub AreTracksOf-more : (old new : List Entry) (id : ℕ) (tracks : List TrackStream) → Begins old new
     → AreTracksOf old id tracks → AreTracksOf new id tracks
-AreTracksOf-more old new id tracks b t = (
-  t.0,
-  subst (λ (h : List Entry). info_of h id ≡ Some t.0) (sym b.1) (info_of-more old b.0 id t.0 t.1),
-  t.2,
-  t.3,
-)
+AreTracksOf-more old new id tracks b t = record {
+  info = t.info;
+  opened = subst (λ (h : List Entry). info_of h id ≡ Some t.info) (sym b.1)
+      (info_of-more old b.0 id t.info t.opened);
+  count = t.count;
+  fit = t.fit;
+}
 
 -- the entries of one track more
 pub published_from-push : (id track : ℕ) (ss : List TrackStream) (s : TrackStream)
@@ -98,9 +93,9 @@ Loading-start alone old pass tracks passes pins fresh of = record {
   passes = passes;
   pins = pins;
   same = refl;
-  from = fresh.0;
-  to = fresh.1;
-  state = fresh.2;
+  from = fresh.from;
+  to = fresh.to;
+  state = fresh.state;
   tracks_of = of;
 }
 
@@ -117,9 +112,9 @@ Loading-next alone old now id tracks finished rest s pass l whole =
     subst (λ (xs : List TrackStream). slice_get xs (length finished) ≡ Some s) whole
     (slice_get-seam finished rest s) in
     let of = l.tracks_of in
-    let known : info_of now.seen pass.id ≡ Some of.0 = rw l.same of.1 in
-    let within : length finished < length of.0.names.tracks = omega (arith, of.2) in
-    (l.state ∙ straight, (of.0, known, within, of.3 (length finished) s at))
+    let known : info_of now.seen pass.id ≡ Some of.info = rw l.same of.opened in
+    let within : length finished < length of.info.names.tracks = omega (arith, of.count) in
+    (l.state ∙ straight, (of.info, known, within, of.fit (length finished) s at))
   where
     slice_get-seam : (xs ys : List TrackStream) (x : TrackStream)
         → slice_get (xs ++ x ∷ ys) (length xs) ≡ Some x
@@ -129,15 +124,17 @@ Loading-next alone old now id tracks finished rest s pass l whole =
 -- it was published
 pub Loading-more : (alone : Bool) (old now new : Seat) (id : ℕ) (tracks finished : List TrackStream)
     (s : TrackStream) (was pass : LoadPass) (place : ℕ) → Loading alone old now id tracks finished was
-    → Keeps alone now new was pass (length finished) s (Ok place)
+    → IsNext was (length finished)
+    → MakesLoadEntry alone now new was (Published was.id (length finished) s) place → pass ≡ advanced was
     → Loading alone old new id tracks (finished ++ s ∷ []) pass
-Loading-more alone old now new id tracks finished s was pass place l k =
+Loading-more alone old now new id tracks finished s was pass place l next k same =
+    let e = k.entered in
     let count : length (finished ++ s ∷ []) ≡ length finished
     + 1 = omega (arith, length-append finished (s ∷ [])) in
-    let begins : Begins now.seen new.seen = Begins-trans now.seen k.0.before new.seen k.0.grown
-    (Published was.id (length finished) s ∷ [], k.0.seen) in
+    let begins : Begins now.seen new.seen = Begins-trans now.seen e.before new.seen e.grown
+    (Published was.id (length finished) s ∷ [], e.seen) in
     let more = Grows-more alone old now new l.block (published_from id 0 finished)
-    (Published was.id (length finished) s) place l.grows k.0 in
+    (Published was.id (length finished) s) place l.grows e in
     let own : published_from id 0 finished ++ Published was.id (length finished) s
     ∷ [] ≡ published_from id 0 (finished ++ s ∷ []) =
     ap (λ (i : ℕ). published_from id 0 finished ++ Published i (length finished) s ∷ []) l.same ∙ sym
@@ -146,15 +143,17 @@ Loading-more alone old now new id tracks finished s was pass place l k =
     record {
       block = l.block ++ place ∷ [];
       grows = subst (λ (es : List Entry). Grows alone old new (l.block ++ place ∷ []) es) own more;
-      passes = Replaces-one (pass_view was) (pass_view pass) new.passes
-          (subst (λ (ps : List PassView). Replaces ps new.passes (pass_view was) (pass_view pass)) l.passes
-          k.2);
-      pins = k.3 ∙ l.pins;
-      same = ap (λ (p : LoadPass). p.id) k.1 ∙ l.same;
-      from = ap (λ (p : LoadPass). p.from) k.1 ∙ l.from;
-      to = ap (λ (p : LoadPass). p.to) k.1 ∙ l.to;
-      state = ap (λ (p : LoadPass). p.state) k.1 ∙ ap (λ (t : ℕ). state_at (length finished + 1) t) l.to ∙ ap
-          (λ (n : ℕ). state_at n (length tracks)) (sym count);
+      passes = Becomes-one (pass_view was) new.passes (pass_view (advanced was) ∷ [])
+          (subst (λ (ps : List PassView). Becomes ps new.passes (pass_view was) (pass_view (advanced was)
+          ∷ []))
+          l.passes k.passes) ∙ ap (λ (p : LoadPass). pass_view p ∷ []) (sym same);
+      pins = k.pins ∙ l.pins;
+      same = ap (λ (p : LoadPass). p.id) same ∙ l.same;
+      from = ap (λ (p : LoadPass). p.from) same ∙ l.from;
+      to = ap (λ (p : LoadPass). p.to) same ∙ l.to;
+      state = ap (λ (p : LoadPass). p.state) same ∙ ap (λ (st : PassState). state_after st was.to) next
+          ∙ ap (λ (t : ℕ). state_at (length finished + 1) t) l.to
+          ∙ ap (λ (n : ℕ). state_at n (length tracks)) (sym count);
       tracks_of = AreTracksOf-more now.seen new.seen id tracks begins l.tracks_of;
     }
 
@@ -162,24 +161,21 @@ Loading-more alone old now new id tracks finished s was pass place l k =
 pub Loading-covers : (alone : Bool) (old now : Seat) (id : ℕ) (tracks finished : List TrackStream)
     (pass : LoadPass) → Loading alone old now id tracks finished pass → CoversAll now.seen pass
 Loading-covers alone old now id tracks finished pass l =
-    let known : info_of now.seen pass.id ≡ Some l.tracks_of.0 = rw l.same l.tracks_of.1 in
-    (l.from, rw known (l.to ∙ sym l.tracks_of.2))
+    let known : info_of now.seen pass.id ≡ Some l.tracks_of.info = rw l.same l.tracks_of.opened in
+    record { from = l.from; to = rw known (l.to ∙ sym l.tracks_of.count) }
 
--- the load ended with this entry
-pub Loading-ends : (alone : Bool) (old now new : Seat) (id : ℕ) (tracks finished : List TrackStream)
-    (pass : LoadPass) (e : Entry) (place : ℕ) → Loading alone old now id tracks finished pass
-    → EndsLoad alone now new pass e place → (before : List ℕ) × Grows alone old new (before ++ place ∷ [])
-    (published_from id 0 finished ++ e ∷ []) × (entry_at new.seen place ≡ Some e) × (place ≡ length new.seen)
-    × IsAtRest new
-Loading-ends alone old now new id tracks finished pass e place l m = (
-  l.block,
-  Grows-more alone old now new l.block (published_from id 0 finished) e place l.grows m.0,
-  entry_at_place m.0.before new.seen e place m.0.seen m.0.last,
-  m.0.last,
+-- the load ended with this entry, and nothing is left of the pass
+ended_load : (alone : Bool) (old now new : Seat) (id : ℕ) (tracks finished : List TrackStream)
+    (pass : LoadPass) (e : Entry) (place : ℕ) → (l : Loading alone old now id tracks finished pass)
+    → left_after pass e ≡ [] → MakesLoadEntry alone now new pass e place
+    → Grows alone old new (l.block ++ place ∷ []) (published_from id 0 finished ++ e ∷ []) × IsAtRest new
+ended_load alone old now new id tracks finished pass e place l none m = (
+  Grows-more alone old now new l.block (published_from id 0 finished) e place l.grows m.entered,
   record {
-    no_pins = m.2 ∙ l.pins;
-    no_passes = Removes-one (pass_view pass) new.passes
-        (subst (λ (ps : List PassView). Removes ps new.passes (pass_view pass)) l.passes m.1);
+    no_pins = m.pins ∙ l.pins;
+    no_passes = Becomes-one (pass_view pass) new.passes (left_after pass e)
+        (subst (λ (ps : List PassView). Becomes ps new.passes (pass_view pass) (left_after pass e)) l.passes
+        m.passes) ∙ none;
   },
 )
 
@@ -194,35 +190,35 @@ Loading-same alone old now new id tracks finished was pass seat same l =
 -- it was given up behind the tracks that are published
 pub Loading-dropped : (alone : Bool) (old now new : Seat) (id : ℕ) (tracks finished rest : List TrackStream)
     (pass : LoadPass) (place : ℕ) → Loading alone old now id tracks finished pass → finished ++ rest ≡ tracks
-    → EndsLoad alone now new pass (Dropped pass.id) place → Publishes alone old new id tracks None
+    → MakesLoadEntry alone now new pass (Dropped pass.id) place → GivesUp alone old new id tracks
 Loading-dropped alone old now new id tracks finished rest pass place l whole m =
-    let end = Loading-ends alone old now new id tracks finished pass (Dropped pass.id) place l m in
+    let end = ended_load alone old now new id tracks finished pass (Dropped pass.id) place l refl m in
     let front : take (length finished) tracks ≡ finished =
     ap (λ (ts : List TrackStream). take (length finished) ts) (sym whole) ∙ take-append_seam finished rest
     in
     let own : published_from id 0 finished ++ Dropped pass.id
     ∷ [] ≡ published_from id 0 (take (length finished) tracks) ++ Dropped id ∷ [] =
     ap (λ (i : ℕ). published_from id 0 finished ++ Dropped i ∷ []) l.same ∙ ap
-    (λ (ts : List TrackStream). published_from id 0 ts ++ Dropped id ∷ []) (sym front) in (
-      end.0 ++ place ∷ [],
-      length finished,
-      subst (λ (es : List Entry). Grows alone old new (end.0 ++ place ∷ []) es) own end.1,
-      end.4,
-    )
+    (λ (ts : List TrackStream). published_from id 0 ts ++ Dropped id ∷ []) (sym front) in
+    record {
+      count = length finished;
+      block = l.block ++ place ∷ [];
+      grows = subst (λ (es : List Entry). Grows alone old new (l.block ++ place ∷ []) es) own end.0;
+      rest = end.1;
+    }
 
 -- it was sealed behind all of them
 pub Loading-sealed : (alone : Bool) (old now new : Seat) (id : ℕ) (tracks finished : List TrackStream)
     (pass : LoadPass) (place : ℕ) → Loading alone old now id tracks finished pass → finished ≡ tracks
-    → EndsLoad alone now new pass (Sealed pass.id) place → Publishes alone old new id tracks (Some place)
+    → MakesLoadEntry alone now new pass (Sealed pass.id) place → PublishesAll alone old new id tracks place
 Loading-sealed alone old now new id tracks finished pass place l all m =
-    let end = Loading-ends alone old now new id tracks finished pass (Sealed pass.id) place l m in
+    let end = ended_load alone old now new id tracks finished pass (Sealed pass.id) place l refl m in
     let own : published_from id 0 finished ++ Sealed pass.id ∷ [] ≡ published_from id 0 tracks ++ Sealed id
     ∷ [] =
     ap (λ (i : ℕ). published_from id 0 finished ++ Sealed i ∷ []) l.same ∙ ap
-    (λ (ts : List TrackStream). published_from id 0 ts ++ Sealed id ∷ []) all in (
-      end.0,
-      subst (λ (es : List Entry). Grows alone old new (end.0 ++ place ∷ []) es) own end.1,
-      subst (λ (i : ℕ). entry_at new.seen place ≡ Some (Sealed i)) l.same end.2,
-      end.3,
-      end.4,
-    )
+    (λ (ts : List TrackStream). published_from id 0 ts ++ Sealed id ∷ []) all in
+    record {
+      before = l.block;
+      grows = subst (λ (es : List Entry). Grows alone old new (l.block ++ place ∷ []) es) own end.0;
+      rest = end.1;
+    }

@@ -1,5 +1,5 @@
 -- A session under way.
-use Rattle.std.proofs.Common.{◌≡◌, ◌≢◌, ℕ, ◌+◌, Bool, List, [], ◌∷◌, ◌++◌, length, Option, None, Some}
+use Rattle.std.proofs.Common.{◌≡◌, ◌≢◌, ℕ, ◌+◌, ◌≤◌, Bool, List, [], ◌∷◌, ◌++◌, length, Option, None, Some}
 use Rattle.std.proofs.Common.{option_to_list, refl, sym, ap, ◌∙◌, subst, append_assoc, arith, length-append}
 use Rattle.std.proofs.lemmas.Grind.{flat_map-append}
 use Rattle.std.proofs.lemmas.List.{append-nil, map-append}
@@ -8,16 +8,18 @@ use Rattle.std.specs.Bool.{OnTrue}
 use Rattle.std.specs.List.{AllByRecursion, cons_option}
 use Rattle.trace_base.specs.Outside.{Told}
 use Rattle.hall_trait.specs.History.{Entry}
-use Rattle.hall_trait.specs.Seat.{Seat, Begins, IsAtRest}
+use Rattle.hall_trait.specs.Seat.{Begins, IsAtRest}
 use Rattle.session_proto.specs.Reply.{reply_text}
 use Rattle.session_proto.specs.declared.reply.Reply.{Reply}
 use Rattle.request_reader.proofs.Cutting.{requests_of-append}
 use Rattle.request_reader.specs.Incoming.{Spells, Takes, left_to_read}
-use Rattle.request_reader.specs.Requests.{WholeRequest, Put, Flat, Quit, Unreadable, Requests, Ending}
+use Rattle.session_proto.specs.declared.request.Request.TheVariants.{Quit}
+use Rattle.request_reader.specs.Requests.{WholeRequest, Line, Requests, Ending}
 use Rattle.request_reader.specs.Requests.{requests_of, onto}
 use Rattle.trace_session.specs.Served.{Served, IsServed, blocks_of, output_of, spent_numbers, spent_number}
 use Rattle.trace_session.specs.Serving.{Serves}
 use Rattle.trace_session.specs.Session.{ComeInOrder, requests_served}
+use Rattle.trace_session.specs.State.{Store, SessionState}
 use Rattle.trace_session.specs.Step.{TakesOne}
 use Rattle.trace_session.proofs.Grow.{Begins-trans, AreAt-length, OnTrue-all, OnTrue-both}
 use Rattle.trace_session.proofs.Later.{all_later, all_push}
@@ -25,15 +27,14 @@ use Rattle.trace_session.proofs.Rising.{ComeInOrder-push}
 use Rattle.trace_session.proofs.Telling.{told_then, told_same}
 
 -- what was served, apart from what was read and written
-pub record Done (alone : Bool) (old now : Seat) (limits limits' : Option (List ℕ)) (served : List Served) :
-    Type 0 where
-  pub each : AllByRecursion (IsServed alone now.seen) served
-  pub seen : Begins old.seen now.seen
-  pub order : ComeInOrder (length old.seen) served (length now.seen)
-  pub places : now.places ≡ old.places ++ blocks_of served
-  pub lone : OnTrue alone (length now.seen ≡ length old.seen + length (blocks_of served))
-  pub rest : IsAtRest now
-  pub records : Told limits limits' (λ was is. is ≡ was ++ spent_numbers served)
+pub record Done (alone : Bool) (old now : Store) (served : List Served) : Type 0 where
+  pub each : AllByRecursion (IsServed alone now.seat.seen) served
+  pub seen : Begins old.seat.seen now.seat.seen
+  pub order : ComeInOrder (length old.seat.seen) served (length now.seat.seen)
+  pub places : now.seat.places ≡ old.seat.places ++ blocks_of served
+  pub lone : OnTrue alone (length now.seat.seen ≡ length old.seat.seen + length (blocks_of served))
+  pub rest : IsAtRest now.seat
+  pub records : Told old.used_up now.used_up (λ was is. is ≡ was ++ spent_numbers served)
 
 -- these requests in front of those of other bytes
 abbrev pub in_front : List WholeRequest → Requests → Requests
@@ -50,13 +51,12 @@ HasRead served was is = (given : List ℕ) × (was ≡ given ++ is) × Spell giv
 abbrev pub HasWritten : List Served → List ℕ → List ℕ → Type 0
 HasWritten served was is = is ≡ was ++ output_of served
 
--- These requests were served, and all of their replies written. `left'` is what is left to read.
-pub record Sofar (alone : Bool) (old now : Seat) (limits limits' left left' held held' : Option (List ℕ)) :
-    Type 0 where
+-- these requests were served, and all of their replies written
+pub record Sofar (alone : Bool) (old now : SessionState) : Type 0 where
   pub served : List Served
-  pub done : Done alone old now limits limits' served
-  pub input : Told left left' (HasRead served)
-  pub output : Told held held' (HasWritten served)
+  pub done : Done alone old.store now.store served
+  pub input : Told old.left now.left (HasRead served)
+  pub output : Told old.held now.held (HasWritten served)
 
 -- one request more
 abbrev pub one_more : List Served → WholeRequest → ℕ → List ℕ → Reply → List Served
@@ -75,34 +75,36 @@ numbers_more served request before block r =
     ((record { request = request; before = before; block = block; reply = r }) ∷ [])
     ∙ ap (λ (l : List ℕ). spent_numbers served ++ l) (one_number r (spent_number r) refl)
 
-pub done_more : (alone : Bool) (old now new : Seat) (limits mid limits' : Option (List ℕ))
-    (served : List Served) (request : WholeRequest) (r : Reply) → Done alone old now limits mid served
-    → (s : Serves alone now new mid limits' request r)
-    → Done alone old new limits limits' (one_more served request (length now.seen) s.block r)
-done_more alone old now new limits mid limits' served request r d s =
-    let x : Served = record { request = request; before = length now.seen; block = s.block; reply = r } in
+pub done_more : (alone : Bool) (old now new : Store) (served : List Served) (request : WholeRequest)
+    (r : Reply)
+    → Done alone old now served → (s : Serves alone now new request r)
+    → Done alone old new (one_more served request (length now.seat.seen) s.block r)
+done_more alone old now new served request r d s =
+    let before = length now.seat.seen in
+    let x : Served = record { request = request; before = before; block = s.block; reply = r } in
     let blocks : blocks_of (served ++ x ∷ []) ≡ blocks_of served
     ++ s.block = flat_map-append (λ (y : Served). y.block) served (x ∷ []) ∙ ap
     (λ (l : List ℕ). blocks_of served ++ l) (append-nil s.block) in
     let later = subst (λ (h : List Entry). AllByRecursion (IsServed alone h) served) (sym s.grows.seen.1)
-    (all_later alone now.seen s.grows.seen.0 served d.each) in
+    (all_later alone now.seat.seen s.grows.seen.0 served d.each) in
+    let came : before ≤ length new.seat.seen =
+    omega (arith, ap length s.grows.seen.1, length-append now.seat.seen s.grows.seen.0) in
     record {
-      each = all_push (IsServed alone new.seen) served x later (s.entries, s.grows.at, s.answered);
-      seen = Begins-trans old.seen now.seen new.seen d.seen s.grows.seen;
-      order = ComeInOrder-push (length old.seen) (length now.seen) (length new.seen) served x d.order refl
+      each = all_push (IsServed alone new.seat.seen) served x later (s.entries, s.grows.at, came, s.answered);
+      seen = Begins-trans old.seat.seen now.seat.seen new.seat.seen d.seen s.grows.seen;
+      order = ComeInOrder-push (length old.seat.seen) before (length new.seat.seen) served x d.order refl
           s.grows.rises;
-      places = s.grows.places ∙ ap (λ (l : List ℕ). l ++ s.block) d.places ∙ append_assoc old.places
-          (blocks_of served) s.block
-          ∙ ap (λ (l : List ℕ). old.places ++ l) (sym blocks);
-      lone = OnTrue-both alone (λ (had : length now.seen ≡ length old.seen + length (blocks_of served))
-          (own : new.seen ≡ now.seen ++ s.entries).
+      places = s.grows.places ∙ ap (λ (l : List ℕ). l ++ s.block) d.places
+          ∙ append_assoc old.seat.places (blocks_of served) s.block
+          ∙ ap (λ (l : List ℕ). old.seat.places ++ l) (sym blocks);
+      lone = OnTrue-both alone (λ (had : before ≡ length old.seat.seen + length (blocks_of served))
+          (own : new.seat.seen ≡ now.seat.seen ++ s.entries).
           omega (
             arith,
             had,
             ap length own,
-            length-append now.seen s.entries,
-            AreAt-length new.seen s.block
-                s.entries s.grows.at,
+            length-append now.seat.seen s.entries,
+            AreAt-length new.seat.seen s.block s.entries s.grows.at,
             ap length blocks,
             length-append (blocks_of served) s.block,
           )) d.lone
@@ -110,10 +112,10 @@ done_more alone old now new limits mid limits' served request r d s =
       rest = s.rest;
       records = told_then (λ was is. is ≡ was ++ spent_numbers served) (λ was is. is ≡ was
           ++ option_to_list (spent_number r)) (λ was is. is ≡ was
-          ++ spent_numbers (one_more served request (length now.seen) s.block r)) limits mid limits'
+          ++ spent_numbers (one_more served request before s.block r)) old.used_up now.used_up new.used_up
           (λ a b c p q. q ∙ ap (λ (l : List ℕ). l ++ option_to_list (spent_number r)) p ∙ append_assoc a
           (spent_numbers served) (option_to_list (spent_number r)) ∙ ap (λ (l : List ℕ). a ++ l)
-          (sym (numbers_more served request (length now.seen) s.block r))) d.records s.records;
+          (sym (numbers_more served request before s.block r))) d.records s.records;
     }
 
 -- the texts of one reply more
@@ -134,18 +136,18 @@ written_more served request before block r a b c =
     (reply_text r) ∙ ap (λ (l : List ℕ). x ++ l) (sym (output_more served request before block r)))
 
 -- a request that isn't QUIT stands in front of those behind it
-onto_front : (r : WholeRequest) (behind : Requests) → r ≢ Quit → onto r behind ≡ in_front (r ∷ []) behind
-onto_front (Put text) behind no_quit = refl
-onto_front (Flat id a b) behind no_quit = refl
-onto_front Quit behind no_quit = absurd (no_quit refl)
-onto_front Unreadable behind no_quit = refl
+onto_front : (r : WholeRequest) (behind : Requests) → r ≢ Line Quit
+    → onto r behind ≡ in_front (r ∷ []) behind
+onto_front (Line Quit) behind no_quit = absurd (no_quit refl)
+onto_front r behind no_quit = refl
 
 pub requests_more : (served : List Served) (request : WholeRequest) (before : ℕ) (block : List ℕ) (r : Reply)
     → requests_served (one_more served request before block r) ≡ requests_served served ++ request ∷ []
 requests_more served request before block r = map-append (λ (x : Served). x.request) served
     ((record { request = request; before = before; block = block; reply = r }) ∷ [])
 
-spell_more : (given taken : List ℕ) (rs : List WholeRequest) (r : WholeRequest) → r ≢ Quit → Spell given rs
+spell_more : (given taken : List ℕ) (rs : List WholeRequest) (r : WholeRequest) → r ≢ Line Quit
+    → Spell given rs
     → Spells taken r → Spell (given ++ taken) (rs ++ r ∷ [])
 spell_more given taken rs r no_quit front spells = λ more.
     ap requests_of (append_assoc given taken more) ∙ front (taken ++ more) ∙ ap (in_front rs)
@@ -157,7 +159,7 @@ spell_more given taken rs r no_quit front spells = λ more.
     record_of all ending = record { all = all; ending = ending }
 
 pub read_more : (served : List Served) (request : WholeRequest) (before : ℕ) (block : List ℕ) (r : Reply)
-    (a b c : Option (List ℕ)) → request ≢ Quit → Told a b (HasRead served)
+    (a b c : Option (List ℕ)) → request ≢ Line Quit → Told a b (HasRead served)
     → Takes b c (λ bytes. Spells bytes request) → Told a c (HasRead (one_more served request before block r))
 read_more served request before block r a b c no_quit =
     told_then (HasRead served) (λ was now. (taken : List ℕ) × (was ≡ taken ++ now) × Spells taken request)
@@ -171,37 +173,41 @@ read_more served request before block r a b c no_quit =
     ))
 
 -- the session goes on
-pub sofar_more : (alone : Bool) (old now new : Seat)
-    (limits mid limits' left midway left' held written held' : Option (List ℕ))
-    → Sofar alone old now limits mid left midway held written
-    → (t : TakesOne alone now new mid limits' midway left' written held' None) → t.request ≢ Quit
-    → Sofar alone old new limits limits' left left' held held'
-sofar_more alone old now new limits mid limits' left midway left' held written held' s t no_quit = record {
-  served = one_more s.served t.request (length now.seen) t.answers.serves.block t.answers.reply;
-  done = done_more alone old now new limits mid limits' s.served t.request t.answers.reply s.done
-      t.answers.serves;
-  input = read_more s.served t.request (length now.seen) t.answers.serves.block t.answers.reply left midway
-      left' no_quit s.input t.taken;
-  output = written_more s.served t.request (length now.seen) t.answers.serves.block t.answers.reply held
-      written held' s.output t.answers.written;
-}
+pub sofar_more : (alone : Bool) (old now new : SessionState) → Sofar alone old now
+    → TakesOne alone now new None
+    → Sofar alone old new
+sofar_more alone old now new s t =
+    let before = length now.store.seat.seen in
+    let block = t.answers.serves.block in
+    record {
+      served = one_more s.served t.request before block t.answers.reply;
+      done = done_more alone old.store now.store new.store s.served t.request t.answers.reply s.done
+          t.answers.serves;
+      input = read_more s.served t.request before block t.answers.reply old.left now.left new.left
+          t.answers.ends s.input t.taken;
+      output = written_more s.served t.request before block t.answers.reply old.held now.held new.held
+          s.output
+          t.answers.written;
+    }
 
 -- a session that begins
-pub sofar_none : (alone : Bool) (s : Seat) (limits left held : Option (List ℕ)) → IsAtRest s
-    → Sofar alone s s limits limits left (left_to_read [] left) held held
-sofar_none alone s limits left held rest = record {
+pub sofar_none : (alone : Bool) (s : SessionState) → IsAtRest s.store.seat
+    → Sofar alone s (record s { left = left_to_read [] s.left })
+sofar_none alone s rest = record {
   served = [];
   done = record {
     each = tt;
-    seen = ([], sym (append-nil s.seen));
+    seen = ([], sym (append-nil s.store.seat.seen));
     order = refl;
-    places = sym (append-nil s.places);
+    places = sym (append-nil s.store.seat.places);
     lone = OnTrue-all alone (omega arith);
     rest = rest;
-    records = told_same (λ was is. is ≡ was ++ []) limits limits (λ x. sym (append-nil x)) refl;
+    records = told_same (λ was is. is ≡ was ++ []) s.store.used_up s.store.used_up
+        (λ x. sym (append-nil x)) refl;
   };
-  input = told_same (HasRead []) left (left_to_read [] left) (λ x. ([], refl, λ more. refl)) (same left);
-  output = told_same (HasWritten []) held held (λ x. sym (append-nil x)) refl;
+  input = told_same (HasRead []) s.left (left_to_read [] s.left) (λ x. ([], refl, λ more. refl))
+      (same s.left);
+  output = told_same (HasWritten []) s.held s.held (λ x. sym (append-nil x)) refl;
 }
   where
     same : (o : Option (List ℕ)) → left_to_read [] o ≡ o

@@ -1,18 +1,19 @@
 -- What objects of the outside tell, from one state to the next; and which reply is told.
-use Rattle.std.proofs.Common.{length, ◌≡◌, ℕ, Bool, true, false, List, ◌++◌, Option, None, Some}
-use Rattle.std.proofs.Common.{option_to_list, refl, sym, ap, subst, inl, inr}
+use Rattle.std.proofs.Common.{length, ◌≡◌, ℕ, Bool, false, List, ◌++◌, Option, None, Some}
+use Rattle.std.proofs.Common.{option_to_list, refl, sym, subst, inr}
 use Rattle.trace_base.specs.Outside.{Told}
 use Rattle.hall_trait.specs.History.{Entry}
-use Rattle.hall_trait.specs.Seat.{Seat}
 use Rattle.session_proto.specs.Reply.{is_short}
-use Rattle.session_proto.specs.declared.reply.No.{No}
+use Rattle.session_proto.specs.declared.reply.NamedRow.{NamedRow}
 use Rattle.session_proto.specs.declared.reply.No.TheVariants as no
 use Rattle.session_proto.specs.declared.reply.Reply.{Reply}
 use Rattle.session_proto.specs.declared.reply.Reply.TheVariants as reply
-use Rattle.request_reader.specs.Requests.{WholeRequest, Put, Flat, Quit, Unreadable}
-use Rattle.trace_session.specs.Served.{IsAnswered, OwnEntries, last_place, spent_number}
-use Rattle.trace_session.specs.Replies.{reply_at}
-use Rattle.trace_session.specs.Serving.{Serves, RecordsReply}
+use Rattle.session_proto.specs.declared.request.Request.TheVariants as line
+use Rattle.session_proto.specs.declared.request.Sel.TheVariants.{All}
+use Rattle.request_reader.specs.Requests.{WholeRequest, Line}
+use Rattle.trace_session.specs.Served.{Standing, standing, IsAnswered, spent_number}
+use Rattle.trace_session.specs.Serving.{Serves}
+use Rattle.trace_session.specs.State.{Store}
 
 -- two calls in turn
 pub told_then : {X : Type 0} (P Q R : X → X → Type 0) (a b c : Option X)
@@ -40,45 +41,21 @@ told_same {X} R a b f is = subst (λ (o : Option X). Told a o R) (sym is) (kept 
     kept (Some x) = f x
     kept None = tt
 
--- a profile that was answered has its entries, and may be told as want of memory
-profile_own : (alone : Bool) (history : List Entry) (k : ℕ) (request : WholeRequest) (r : Reply)
-    (entries : List Entry) → is_short r ≡ false → r ≡ reply_at history k request
-    → OwnEntries alone history k request r entries → (before : ℕ) (block : List ℕ)
-    → IsAnswered alone history before request block entries (reply.No no.Memory)
-profile_own alone history k (Put text) (reply.Flat over bare rows place) entries long is own before block =
-    absurd own
-profile_own alone history k (Put text) (reply.Put id tracks functions messages place) entries long is own
-    before block = absurd (cc)
-profile_own alone history k (Put text) reply.Quit entries long is own before block = absurd (cc)
-profile_own alone history k (Put text) (reply.No n) entries long is own before block = absurd (cc)
-profile_own alone history k (Flat id a b) r entries long is own before block = inr (inr (refl, inr own))
-profile_own alone history k Quit (reply.Flat over bare rows place) entries long is own before block =
-    absurd (cc)
-profile_own alone history k Quit (reply.Put id tracks functions messages place) entries long is own before
-    block = absurd (cc)
-profile_own alone history k Quit reply.Quit entries long is own before block = absurd (cc)
-profile_own alone history k Quit (reply.No n) entries long is own before block = absurd (cc)
-profile_own alone history k Unreadable (reply.Flat over bare rows place) entries long is own before block =
-    absurd (cc)
-profile_own alone history k Unreadable (reply.Put id tracks functions messages place) entries long is own
-    before block = absurd (cc)
-profile_own alone history k Unreadable reply.Quit entries long is own before block = absurd (cc)
-profile_own alone history k Unreadable (reply.No n) entries long is own before block = absurd (cc)
+-- a profile that was answered may be told as want of memory
+flat_untold : (s : Standing) (request : WholeRequest) (over : ℕ) (bare : ℕ) (rows : List NamedRow) (place : ℕ)
+    (entries : List Entry) → IsAnswered s request (reply.Flat over bare rows place) entries
+    → IsAnswered s request (reply.No no.Memory) entries
+flat_untold s (Line (line.Flat id All a b)) over bare rows place entries own = inr own.0
+flat_untold s request over bare rows place entries own = absurd own
 
--- a line is not long
-not_long : (n : No) (r : Reply) → r ≡ reply.No n → is_short r ≡ false → ⊥
-not_long n r is long = let short : is_short r ≡ true = ap is_short is in cc
-
-profile_answered : (alone : Bool) (history : List Entry) (before : ℕ) (request : WholeRequest)
-    (block : List ℕ) (entries : List Entry) (r : Reply) → is_short r ≡ false
-    → IsAnswered alone history before request block entries r → IsAnswered alone history before request block
-    entries (reply.No no.Memory)
-profile_answered alone history before request block entries r long (inl own) = profile_own alone history
-    (last_place block) request r entries long own.0 own.1 before block
-profile_answered alone history before request block entries r long (inr (inl spent)) =
-    absurd (not_long (no.Spent spent.1) r spent.2 long)
-profile_answered alone history before request block entries r long (inr (inr memory)) =
-    absurd (not_long no.Memory r memory.0 long)
+-- only a profile is long
+untold : (s : Standing) (request : WholeRequest) (r : Reply) (entries : List Entry) → is_short r ≡ false
+    → IsAnswered s request r entries → IsAnswered s request (reply.No no.Memory) entries
+untold s request (reply.Flat over bare rows place) entries long own =
+    flat_untold s request over bare rows place entries own
+untold s request (reply.Put id tracks functions messages place) entries long own = absurd (cc)
+untold s request reply.Quit entries long own = absurd (cc)
+untold s request (reply.No n) entries long own = absurd (cc)
 
 long_number : (r : Reply) → is_short r ≡ false → spent_number r ≡ None
 long_number (reply.Flat over bare rows place) long = refl
@@ -87,18 +64,15 @@ long_number reply.Quit long = absurd (cc)
 long_number (reply.No n) long = absurd (cc)
 
 -- a profile is told as want of memory
-pub Serves-untold : (alone : Bool) (old new : Seat) (limits limits' : Option (List ℕ))
-    (request : WholeRequest) (r : Reply) → is_short r ≡ false → Serves alone old new limits limits' request r
-    → Serves alone old new limits limits' request (reply.No no.Memory)
-Serves-untold alone old new limits limits' request r long s = record {
+pub Serves-untold : (alone : Bool) (old new : Store) (request : WholeRequest) (r : Reply)
+    → is_short r ≡ false → Serves alone old new request r → Serves alone old new request (reply.No no.Memory)
+Serves-untold alone old new request r long s = record {
   block = s.block;
   entries = s.entries;
   grows = s.grows;
-  answered = profile_answered alone new.seen (length old.seen) request s.block s.entries r long s.answered;
+  answered = untold (standing alone new.seat.seen (length old.seat.seen) s.block) request r s.entries long
+      s.answered;
   rest = s.rest;
-  records = record_none;
+  records = subst (λ (o : Option ℕ). Told old.used_up new.used_up (λ was now. now ≡ was ++ option_to_list o))
+      (long_number r long) s.records;
 }
-  where
-    record_none : RecordsReply limits limits' (reply.No no.Memory)
-    record_none = subst (λ (o : Option ℕ). Told limits limits' (λ was now. now ≡ was ++ option_to_list o))
-        (long_number r long) s.records

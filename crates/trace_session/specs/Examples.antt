@@ -1,6 +1,5 @@
 -- The first session, on which the definitions are computed: a small trace, a profile of it, QUIT.
 use Rattle.std.specs.Prelude.{ℕ, List, [], ◌∷◌, ◌++◌, codes}
-use Rattle.trace_base.specs.declared.stream.TrackStream.{TrackStream}
 use Rattle.trace_base.specs.Examples as streams
 use Rattle.hall_trait.specs.History.{Entry, Opened, Published, Sealed, Asked}
 use Rattle.small_form.specs.Examples.{small_two_calls, two_calls_said}

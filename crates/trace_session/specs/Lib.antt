@@ -1,11 +1,11 @@
+pub mod Examples
 pub mod Load
 pub mod Output
 pub mod Replies
-pub mod Examples
 pub mod Run
-pub mod Serve
 pub mod Served
 pub mod Serving
 pub mod Session
+pub mod State
 pub mod Step
 pub mod Text

@@ -1,6 +1,6 @@
--- The reply of a request whose place is k in a history. S is what the entries up to that place say.
-use Rattle.std.specs.Prelude.{◌≡◌, ℕ, ◌+◌, ◌-◌, Bool, if◌then◌else◌, zero, suc, List, [], ◌∷◌, length, take}
-use Rattle.std.specs.Prelude.{map, filter_map, slice_get, slice_index_or, Option, None, Some}
+-- The replies that requests have of their own, at a place of a history.
+use Rattle.std.specs.Prelude.{ℕ, ◌-◌, if◌then◌else◌, zero, suc, List, [], length}
+use Rattle.std.specs.Prelude.{map, filter_map, slice_get, slice_index_or, Option, None}
 use Rattle.std.specs.List.{range_with_len}
 use Rattle.std.specs.Option.{option_map_or}
 use Rattle.trace_base.specs.Flat.{flat}
@@ -9,36 +9,20 @@ use Rattle.trace_base.specs.declared.profile.Row.{Row}
 use Rattle.trace_base.specs.declared.profile.Profile.{Profile}
 use Rattle.trace_base.specs.declared.stream.TrackStream.{TrackStream}
 use Rattle.trace_base.specs.declared.text.TraceText.{TraceText}
-use Rattle.hall_trait.specs.History.{Entry, Opened, Published, Sealed, Dropped, Closed, Asked, info_of}
-use Rattle.hall_trait.specs.History.{stream_of, is_open, tracks_of}
+use Rattle.hall_trait.specs.History.{Entry, info_of, stream_of, is_open, tracks_of}
 use Rattle.session_proto.specs.declared.reply.NamedRow.{NamedRow}
 use Rattle.session_proto.specs.declared.reply.No.TheVariants as no
 use Rattle.session_proto.specs.declared.reply.Reply.{Reply}
 use Rattle.session_proto.specs.declared.reply.Reply.TheVariants as reply
-use Rattle.small_form.specs.SmallForm.{small_form}
-use Rattle.request_reader.specs.Requests.{WholeRequest, Put, Flat, Quit, Unreadable}
 
 -- the entry at a place, counted from 1
 abbrev pub entry_at : List Entry → ℕ → Option Entry
 entry_at history zero = None
 entry_at history (suc i) = slice_get history i
 
--- the reply to a text in the small form, by the entry at its place: it was sealed under this id, or not let
--- in
-abbrev pub opened_reply : ℕ → TraceText → Option Entry → Reply
-opened_reply k t (Some (Sealed id)) =
-    reply.Put id (length t.names.tracks) (length t.names.functions) 0 k
-opened_reply k t (Some (Opened id info)) = reply.No (no.Full k)
-opened_reply k t (Some (Published id track s)) = reply.No (no.Full k)
-opened_reply k t (Some (Dropped id)) = reply.No (no.Full k)
-opened_reply k t (Some (Closed id)) = reply.No (no.Full k)
-opened_reply k t (Some Asked) = reply.No (no.Full k)
-opened_reply k t None = reply.No (no.Full k)
-
--- the reply to a text
-abbrev pub put_reply : List Entry → ℕ → Option TraceText → Reply
-put_reply history k None = reply.No no.Unbuilt
-put_reply history k (Some t) = opened_reply k t (entry_at history k)
+-- the reply to a text whose trace was opened under this id
+abbrev pub opened_reply : ℕ → TraceText → ℕ → Reply
+opened_reply id t place = reply.Put id (length t.names.tracks) (length t.names.functions) 0 place
 
 -- the streams of the tracks of a trace that are published, by track
 unfoldable pub streams_of : List Entry → ℕ → List TrackStream
@@ -54,19 +38,12 @@ named functions row = record { row = row; name = slice_index_or functions (row.f
 
 -- the reply that gives a profile over some streams
 abbrev pub profile_reply : ℕ → List (List ℕ) → ℕ → Profile → Reply
-profile_reply over functions k p = reply.Flat over p.bare (map (named functions) p.rows) k
+profile_reply over functions place p = reply.Flat over p.bare (map (named functions) p.rows) place
 
--- the flat profile of the trace's published tracks over [a, b), if the trace is open
+-- the flat profile of the trace's published tracks over [a, b), if the trace is open after these entries
 unfoldable pub flat_reply : List Entry → ℕ → ℕ → ℕ → ℕ → Reply
-flat_reply entries k id a b =
+flat_reply entries place id a b =
     if is_open entries id
-    then profile_reply (length (streams_of entries id)) (functions_of entries id) k
+    then profile_reply (length (streams_of entries id)) (functions_of entries id) place
     (flat (streams_of entries id) a b)
-    else reply.No (no.Unknown id k)
-
--- The reply of a request at place k. The replies of lines that aren't read and of QUIT have no place.
-abbrev pub reply_at : List Entry → ℕ → WholeRequest → Reply
-reply_at history k (Put text) = put_reply history k (small_form text)
-reply_at history k (Flat id a b) = flat_reply (take k history) k id a b
-reply_at history k Quit = reply.Quit
-reply_at history k Unreadable = reply.No no.Grammar
+    else reply.No (no.Unknown id place)

@@ -1,15 +1,16 @@
 -- What a session did: the requests that it served, and what it wrote, read and left.
-use Rattle.std.specs.Prelude.{◌≡◌, ◌≢◌, ℕ, ◌+◌, Bool, List, [], ◌∷◌, ◌++◌, length, map, Option}
+use Rattle.std.specs.Prelude.{◌≡◌, ◌≢◌, ℕ, ◌+◌, Bool, List, [], ◌∷◌, ◌++◌, length, map}
 use Rattle.std.specs.Bool.{OnTrue}
 use Rattle.std.specs.List.{AllByRecursion}
 use Rattle.trace_base.specs.Outside.{Told}
 use Rattle.hall_trait.specs.History.{IsLegalHistory}
-use Rattle.hall_trait.specs.Seat.{Seat, Begins, IsAtRest}
+use Rattle.hall_trait.specs.Seat.{Begins, IsAtRest}
 use Rattle.session_proto.specs.Reply.{reply_text}
-use Rattle.request_reader.specs.Requests.{WholeRequest, Requests, Ending, AfterQuit, Between, Inside}
+use Rattle.request_reader.specs.Requests.{WholeRequest, Requests, AfterQuit, Between, Inside}
 use Rattle.request_reader.specs.Requests.{requests_of}
 use Rattle.trace_session.specs.Output.{WritesFront}
 use Rattle.trace_session.specs.Served.{Served, IsServed, Rise, blocks_of, output_of, spent_numbers}
+use Rattle.trace_session.specs.State.{SessionState}
 use Rattle.trace_session.specs.declared.sessions.End.{End}
 use Rattle.trace_session.specs.declared.sessions.End.TheVariants as ends
 
@@ -29,11 +30,9 @@ Answers ends.WriteFault asked served = Begins (requests_served served) asked.all
 
 -- nothing is left to read where the session ended with its source
 abbrev pub LeavesNothing : End → List ℕ → Type 0
-LeavesNothing ends.Quit now = Unit {0}
 LeavesNothing ends.Eof now = now ≡ []
 LeavesNothing ends.Cut now = now ≡ []
-LeavesNothing ends.ReadFault now = Unit {0}
-LeavesNothing ends.WriteFault now = Unit {0}
+LeavesNothing end now = Unit {0}
 
 -- the bytes that the source gave, and what was served of them
 abbrev pub ReadsRequests : End → List ℕ → List ℕ → List Served → Type 0
@@ -46,10 +45,7 @@ abbrev pub WritesReplies : End → List ℕ → List ℕ → List Served → Typ
 WritesReplies ends.WriteFault was now served =
     (earlier : List Served) × (last : Served) × (served ≡ earlier ++ last ∷ [])
     × WritesFront (reply_text last.reply) (was ++ output_of earlier) now
-WritesReplies ends.Quit was now served = now ≡ was ++ output_of served
-WritesReplies ends.Eof was now served = now ≡ was ++ output_of served
-WritesReplies ends.Cut was now served = now ≡ was ++ output_of served
-WritesReplies ends.ReadFault was now served = now ≡ was ++ output_of served
+WritesReplies end was now served = now ≡ was ++ output_of served
 
 -- Each request came when the seat had seen so many entries: n of them at the first, and m behind the last.
 -- The places of its block lie behind these and among those that were seen when the next one came.
@@ -58,19 +54,19 @@ ComeInOrder n [] m = n ≡ m
 ComeInOrder n (x ∷ served) m = (x.before ≡ n) × (after : ℕ) × Rise n x.block after
     × ComeInOrder after served m
 
--- A session over a seat, from old to new. Each request was served in the history that the seat has seen at
--- its end, which is legal. The seat's new places are the blocks in order and nothing else, and a seat that is
--- alone saw no entries but those. It is left at rest.
-pub record IsSession (alone : Bool) (old new : Seat) (limits limits' left left' held held' : Option (List ℕ))
-    (end : End) : Type 0 where
+-- A session, from old to new. Each request was served in the history that the seat has seen at its end, which
+-- is legal. The seat's new places are the blocks in order and nothing else, and a seat that is alone saw no
+-- entries but those. It is left at rest.
+pub record IsSession (alone : Bool) (old new : SessionState) (end : End) : Type 0 where
   pub served : List Served
-  pub each : AllByRecursion (IsServed alone new.seen) served
-  pub seen : Begins old.seen new.seen
-  pub legal : IsLegalHistory new.seen
-  pub order : ComeInOrder (length old.seen) served (length new.seen)
-  pub places : new.places ≡ old.places ++ blocks_of served
-  pub lone : OnTrue alone (length new.seen ≡ length old.seen + length (blocks_of served))
-  pub rest : IsAtRest new
-  pub records : Told limits limits' (λ was now. now ≡ was ++ spent_numbers served)
-  pub input : Told left left' (λ was now. ReadsRequests end was now served)
-  pub output : Told held held' (λ was now. WritesReplies end was now served)
+  pub each : AllByRecursion (IsServed alone new.store.seat.seen) served
+  pub seen : Begins old.store.seat.seen new.store.seat.seen
+  pub legal : IsLegalHistory new.store.seat.seen
+  pub order : ComeInOrder (length old.store.seat.seen) served (length new.store.seat.seen)
+  pub places : new.store.seat.places ≡ old.store.seat.places ++ blocks_of served
+  pub lone : OnTrue alone
+      (length new.store.seat.seen ≡ length old.store.seat.seen + length (blocks_of served))
+  pub rest : IsAtRest new.store.seat
+  pub records : Told old.store.used_up new.store.used_up (λ was now. now ≡ was ++ spent_numbers served)
+  pub input : Told old.left new.left (λ was now. ReadsRequests end was now served)
+  pub output : Told old.held new.held (λ was now. WritesReplies end was now served)

@@ -1,11 +1,10 @@
-ghost use Rattle.std.specs.Prelude.{◌≡◌, ◌≤◌, ◌⊎◌, ℕ, None, Some};
+ghost use Rattle.std.specs.Prelude.{◌≡◌, ◌≤◌, ℕ, List, Option, Some};
 ghost use Rattle.trace_base.specs.Outside.{Rose};
 ghost use Rattle.hall_trait.specs.Seat.{IsAtRest};
-ghost use Rattle.request_reader.specs.Incoming.{IsWithinLimits};
+ghost use Rattle.request_reader.specs.Incoming.{Is, ComesWithinLimits};
 ghost use Rattle.request_reader.specs.Requests.{WholeRequest};
-ghost use Rattle.trace_session.specs.Serve.{IsRequest, Is};
 ghost use Rattle.trace_session.specs.Step.{AnswersOne, EndsWith};
-ghost use Rattle.trace_session.specs.declared.sessions.End.TheVariants.{Quit, WriteFault};
+ghost use Rattle.trace_session.specs.declared.sessions.End.TheVariants.{WriteFault};
 
 use crate::buffer::SessionBuf;
 use crate::output::{WriteFailed, write_all};
@@ -14,6 +13,7 @@ use crate::sessions::End;
 use crate::text::reply_into;
 use hall_trait::Hall;
 use request_reader::Incoming;
+use session_proto::Request;
 use std::alloc::Global;
 use std::sync::Wait;
 use trace_base::Sink;
@@ -28,13 +28,20 @@ pub fn answer<R: Wait, H: Hall, O: Sink>(
     buf: &mut SessionBuf,
 ) -> Option<End>
     requires rest { IsAtRest (H.seat hall.old) }
-    requires request { IsRequest incoming }
-    requires limits { IsWithinLimits incoming buf.old.input.text.items }
+    requires limits { ComesWithinLimits incoming buf.old.input.text.items }
     ensures answers { (request : WholeRequest) → Is incoming buf.old.input.text.items request
-        → AnswersOne H.alone (H.seat hall.old) (H.seat hall.new) (H.limits hall.old) (H.limits hall.new)
-        (O.held output.old) (O.held output.new) request result }
-    ensures ends { EndsWith incoming result }
-    ensures request { IsRequest incoming }
+        → (left : Option (List ℕ)) → AnswersOne H.alone
+        (record {
+          store = record { seat = H.seat hall.old; used_up = H.used_up hall.old };
+          left = left;
+          held = O.held output.old;
+        })
+        (record {
+          store = record { seat = H.seat hall.new; used_up = H.used_up hall.new };
+          left = left;
+          held = O.held output.new;
+        })
+        request result }
     ensures input { buf.new.input ≡ buf.old.input }
     ensures writes { O.faults output.old ≤ O.faults output.new }
     ensures write_fault { result ≡ Some WriteFault → Rose (O.faults output.old) (O.faults output.new) }
@@ -49,11 +56,11 @@ pub fn answer<R: Wait, H: Hall, O: Sink>(
 
 // The end of the session behind a request, if it is the last.
 fn end_of(incoming: Incoming) -> Option<End>
-    ensures ends { EndsWith incoming result }
-    ensures only { (result ≡ None) ⊎ (result ≡ Some Quit) }
+    ensures { EndsWith incoming result }
 {
-    match incoming {
-        Incoming::Quit => Some(End::Quit),
-        _ => None,
+    if incoming == Incoming::Line(Request::Quit) {
+        Some(End::Quit)
+    } else {
+        None
     }
 }

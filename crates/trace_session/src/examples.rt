@@ -3,7 +3,9 @@ ghost use Rattle.std.specs.Prelude.{◌≡◌, [], ◌∷◌, ◌++◌, Bool, Li
 ghost use Rattle.trace_base.specs.Examples.{two_calls as calls_stream};
 ghost use Rattle.trace_base.specs.Stream.{pieces};
 ghost use Rattle.hall_trait.specs.History.{Entry};
-ghost use Rattle.request_reader.specs.Requests.{requests_of, Put, Flat, Quit, AfterQuit};
+ghost use Rattle.request_reader.specs.Requests.{requests_of, Line, Load, AfterQuit};
+ghost use Rattle.session_proto.specs.declared.request.Request.TheVariants.{Flat, Quit};
+ghost use Rattle.session_proto.specs.declared.request.Sel.TheVariants.{All};
 ghost use Rattle.session_proto.specs.Reply.{reply_text};
 ghost use Rattle.session_proto.specs.declared.reply.No.TheVariants.{Full, Unknown};
 ghost use Rattle.session_proto.specs.declared.reply.Reply.TheVariants.{Put as PutReply, Flat as FlatReply};
@@ -29,7 +31,7 @@ pub fn pieces_of_two_calls()
 #[tactic(auto, unfolding(session_proto::specs::Request::number_of, session_proto::specs::Request::words_of, session_proto::specs::Request::request_of, request_reader::specs::Requests::first_request, request_reader::specs::Requests::requests_within, request_reader::specs::Requests::requests_of, small_form::specs::Examples::small_two_calls, small_form::specs::SmallForm::head, crate::specs::Examples::first_input))]
 pub fn requests_of_first_input()
     ensures { requests_of first_input ≡ record {
-      all = Put small_two_calls ∷ Flat 1 0 500000000 ∷ Quit
+      all = Load small_two_calls ∷ Line (Flat 1 All 0 500000000) ∷ Line Quit
           ∷ [];
       ending = AfterQuit;
     } }

@@ -1,7 +1,7 @@
 ghost use Rattle.std.specs.Prelude.{◌≡◌, ◌≤◌, ℕ, List, [], ◌∷◌, length, Some};
 ghost use Rattle.trace_base.specs.Info.{IsLegalInfo};
 ghost use Rattle.hall_trait.specs.Seat.{IsAtRest};
-ghost use Rattle.request_reader.specs.Requests.{Put};
+ghost use Rattle.request_reader.specs.Requests.{Load};
 ghost use Rattle.small_form.specs.SmallForm.{small_form, small_info_of};
 ghost use Rattle.trace_session.specs.Serving.{Serves};
 ghost use Rattle.hall_trait.specs.Pass.{pass_view, IsFresh};
@@ -12,15 +12,16 @@ use session_proto::{No, Reply};
 use small_form::{SmallFault, read_small};
 use std::alloc::Global;
 use std::sync::{Arc, Wait};
-use trace_base::{MsgTable, Seq, TraceInfo, TraceText, TrackStream};
+use trace_base::{MAX_SMALL_TEXT, MsgTable, Seq, TraceInfo, TraceText, TrackStream};
 
-/// Serves a PUT of this text: where it is in the small form, its trace is opened.
+/// Serves the load of this text: where it is in the small form, its trace is opened.
 #[tactic(auto, using(crate::proofs::Opening::put_unbuilt, crate::proofs::Opening::put_memory))]
-pub fn serve_put<R: Wait, H: Hall>(rt: &R, alloc: Global, hall: &mut H, text: &[u8]) -> Reply
+pub fn serve_load<R: Wait, H: Hall>(rt: &R, alloc: Global, hall: &mut H, text: &[u8]) -> Reply
     requires rest { IsAtRest (H.seat hall.old) }
-    requires limit { length text.now ≤ 65536 }
-    ensures { Serves H.alone (H.seat hall.old) (H.seat hall.new) (H.limits hall.old) (H.limits hall.new)
-        (Put text.now) result }
+    requires limit { length text.now ≤ MAX_SMALL_TEXT }
+    ensures { Serves H.alone
+        (record { seat = H.seat hall.old; used_up = H.used_up hall.old })
+        (record { seat = H.seat hall.new; used_up = H.used_up hall.new }) (Load text.now) result }
 {
     match read_small(alloc, text) {
         Ok(trace) => open_trace(rt, alloc, hall, trace),
@@ -36,8 +37,9 @@ fn open_trace<R: Wait, H: Hall>(rt: &R, alloc: Global, hall: &mut H, trace: Trac
     requires lengths { length trace.tracks ≡ length trace.names.tracks }
     requires fits { FitAll (small_info_of trace) trace.tracks }
     ensures { (text : List ℕ) → small_form text ≡ Some trace
-        → Serves H.alone (H.seat hall.old) (H.seat hall.new) (H.limits hall.old) (H.limits hall.new)
-        (Put text) result }
+        → Serves H.alone
+        (record { seat = H.seat hall.old; used_up = H.used_up hall.old })
+        (record { seat = H.seat hall.new; used_up = H.used_up hall.new }) (Load text) result }
 {
     let TraceText {
         names,
@@ -87,7 +89,7 @@ fn publish_all<R: Wait, H: Hall>(
     requires fresh { IsFresh pass (length tracks) }
     requires tracks { AreTracksOf (H.seat hall.old).seen pass.id tracks }
     ensures published { Publishes H.alone (H.seat hall.old) (H.seat hall.new) pass.id tracks result }
-    ensures records { H.limits hall.new ≡ H.limits hall.old }
+    ensures records { H.used_up hall.new ≡ H.used_up hall.old }
 {
     for s in tracks.into_vec() {
         match hall.keep(rt, &mut pass, s) {

@@ -1,4 +1,4 @@
-ghost use Rattle.std.specs.Prelude.{◌≡◌, ◌+◌, ◌-◌, ◌^◌, ◌≤◌, ◌<◌, ◌⊎◌, ℕ, List, [], length, map, take, All};
+ghost use Rattle.std.specs.Prelude.{◌≡◌, ◌+◌, ◌-◌, ◌≤◌, ◌<◌, ◌⊎◌, ℕ, List, [], length, map, take, All};
 ghost use Rattle.std.specs.Prelude.{Contains, IfOk, Some, slice_index_or};
 ghost use Rattle.trace_base.specs.Flat.{flat};
 ghost use Rattle.trace_base.specs.Stream.{IsLegal};
@@ -6,7 +6,9 @@ ghost use Rattle.trace_base.specs.declared.stream.TrackStream.{TrackStream};
 ghost use Rattle.hall_trait.specs.History.{info_of, tracks_of};
 ghost use Rattle.hall_trait.specs.Pin.{pin_view, first_id};
 ghost use Rattle.hall_trait.specs.Seat.{IsAtRest};
-ghost use Rattle.request_reader.specs.Requests.{Flat};
+ghost use Rattle.request_reader.specs.Requests.{Line};
+ghost use Rattle.session_proto.specs.declared.request.Request.TheVariants.{Flat};
+ghost use Rattle.session_proto.specs.declared.request.Sel.TheVariants as sel;
 ghost use Rattle.session_proto.specs.declared.reply.No.TheVariants.{Memory as NoMemory};
 ghost use Rattle.session_proto.specs.declared.reply.Reply.TheVariants.{No as Refused};
 ghost use Rattle.trace_session.specs.Replies.{streams_of, functions_of, named, profile_reply};
@@ -17,7 +19,7 @@ use hall_trait::{AskAnswer, Hall, Pin};
 use session_proto::{NamedRow, No, Reply};
 use std::alloc::Global;
 use std::sync::Wait;
-use trace_base::{AskIds, Memory, Name, Row, Seq, TrackStream};
+use trace_base::{AskIds, MAX_TIME, MAX_TRACKS, Memory, Name, Row, Seq, TrackStream};
 
 /// Serves a FLAT: the flat profile of the trace's published tracks over the half-open interval [a, b), in
 /// nanoseconds.
@@ -31,9 +33,11 @@ pub fn serve_flat<R: Wait, H: Hall>(
 ) -> Reply
     requires rest { IsAtRest (H.seat hall.old) }
     requires below { a < b }
-    requires limit { b ≤ 2 ^ 62 }
-    ensures { Serves H.alone (H.seat hall.old) (H.seat hall.new) (H.limits hall.old) (H.limits hall.new)
-        (Flat id a b) result }
+    requires limit { b ≤ MAX_TIME }
+    ensures { Serves H.alone
+        (record { seat = H.seat hall.old; used_up = H.used_up hall.old })
+        (record { seat = H.seat hall.new; used_up = H.used_up hall.new })
+        (Line (Flat id sel.All a b)) result }
 {
     match hall.ask(rt, AskIds::One(id)) {
         AskAnswer::Pinned(pin) => {
@@ -63,13 +67,13 @@ fn pinned_profile<R: Wait, H: Hall>(
     requires tracks { pin.now.first.tracks ≡ tracks_of (take pin.now.place (H.seat hall.old).seen)
         (first_id pin.now.ids) }
     requires below { a < b }
-    requires limit { b ≤ 2 ^ 62 }
+    requires limit { b ≤ MAX_TIME }
     ensures reply { let seen = take pin.now.place (H.seat hall.old).seen in let id = first_id pin.now.ids in
         (result ≡ profile_reply (length (streams_of seen id)) (functions_of seen id) pin.now.place
         (flat (streams_of seen id) a b))
         ⊎ (result ≡ Refused NoMemory) }
     ensures seat { H.seat hall.new ≡ H.seat hall.old }
-    ensures records { H.limits hall.new ≡ H.limits hall.old }
+    ensures records { H.used_up hall.new ≡ H.used_up hall.old }
 {
     let Ok(info) = hall.info(rt, pin, 0) else {
         return Reply::No(No::Memory);
@@ -92,9 +96,9 @@ fn profile_over<H: Hall>(
     requires has { Contains (H.seat hall.now).pins (pin_view pin.now) }
     requires tracks { pin.now.first.tracks ≡ tracks_of (take pin.now.place (H.seat hall.now).seen)
         (first_id pin.now.ids) }
-    requires few { pin.now.first.tracks ≤ 4096 }
+    requires few { pin.now.first.tracks ≤ MAX_TRACKS }
     requires below { a < b }
-    requires limit { b ≤ 2 ^ 62 }
+    requires limit { b ≤ MAX_TIME }
     ensures { let streams = streams_of (take pin.now.place (H.seat hall.now).seen) (first_id pin.now.ids) in
         IfOk result (λ r. r ≡ profile_reply (length streams) functions.now pin.now.place (flat streams a b)) }
 {

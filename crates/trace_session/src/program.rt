@@ -7,7 +7,7 @@ ghost use Rattle.trace_session.specs.Run.{RunsBatch, usage_text, status_of};
 use crate::buffer::SessionBuf;
 use crate::output::{WriteFailed, write_all};
 use crate::sessions::{End, session};
-use hall_trait::PlainHall;
+use plain_hall::PlainHall;
 use std::alloc::Global;
 use std::sync::Wait;
 use trace_base::{Sink, Source};

@@ -1,20 +1,20 @@
-ghost use Rattle.std.specs.Prelude.{ℕ, List};
+ghost use Rattle.std.specs.Prelude.{◌≡◌, None};
 ghost use Rattle.hall_trait.specs.Seat.{IsAtRest};
-ghost use Rattle.request_reader.specs.Incoming.{IsWithinLimits};
-ghost use Rattle.request_reader.specs.Requests.{WholeRequest};
-ghost use Rattle.trace_session.specs.Serve.{IsRequest, Is};
+ghost use Rattle.session_proto.specs.Request.{text_length, IsWithinLimits};
+ghost use Rattle.request_reader.specs.Incoming.{Is, ComesWithinLimits};
+ghost use Rattle.request_reader.specs.Requests.{WholeRequest, Line};
 ghost use Rattle.trace_session.specs.Serving.{Serves};
 
-use crate::load::serve_put;
+use crate::load::serve_load;
 use crate::profile::serve_flat;
 use hall_trait::Hall;
 use request_reader::Incoming;
-use session_proto::{No, Reply};
+use session_proto::{No, Reply, Request, Sel};
 use std::alloc::Global;
 use std::sync::Wait;
 
-/// Serves what came, which is a request. The bytes are those of a PUT.
-#[tactic(auto, using(crate::proofs::Plain::serves_quit, crate::proofs::Plain::serves_unreadable, crate::proofs::Plain::serves_dropped))]
+/// Serves what came. The text is that of a load.
+#[tactic(auto, using(crate::proofs::Plain::serves_line, crate::proofs::Plain::serves_load, crate::proofs::Plain::serves_unreadable, crate::proofs::Plain::serves_dropped))]
 pub fn serve<R: Wait, H: Hall>(
     rt: &R,
     alloc: Global,
@@ -23,18 +23,37 @@ pub fn serve<R: Wait, H: Hall>(
     text: &[u8],
 ) -> Reply
     requires rest { IsAtRest (H.seat hall.old) }
-    requires request { IsRequest incoming }
-    requires limits { IsWithinLimits incoming text.now }
-    ensures { (request : WholeRequest) → Is incoming text.now request
-        → Serves H.alone (H.seat hall.old) (H.seat hall.new) (H.limits hall.old) (H.limits hall.new) request
-        result }
+    requires limits { ComesWithinLimits incoming text.now }
+    ensures { (request : WholeRequest) → Is incoming text.now request → Serves H.alone
+        (record { seat = H.seat hall.old; used_up = H.used_up hall.old })
+        (record { seat = H.seat hall.new; used_up = H.used_up hall.new }) request result }
 {
     match incoming {
-        Incoming::Put => serve_put(rt, alloc, hall, text),
+        Incoming::Line(request) => serve_line(rt, alloc, hall, request),
+        Incoming::Load => serve_load(rt, alloc, hall, text),
         Incoming::Dropped => Reply::No(No::Memory),
-        Incoming::Flat { id, a, b } => serve_flat(rt, alloc, hall, id, a, b),
-        Incoming::Quit => Reply::Quit,
         Incoming::Unreadable => Reply::No(No::Grammar),
-        Incoming::End | Incoming::Cut | Incoming::Failed => unreachable!(),
+    }
+}
+
+// Serves a request line that no text follows.
+#[tactic(auto, using(crate::proofs::Plain::serves_quit))]
+fn serve_line<R: Wait, H: Hall>(rt: &R, alloc: Global, hall: &mut H, request: Request) -> Reply
+    requires rest { IsAtRest (H.seat hall.old) }
+    requires no_text { text_length request ≡ None }
+    requires limits { IsWithinLimits request }
+    ensures { Serves H.alone
+        (record { seat = H.seat hall.old; used_up = H.used_up hall.old })
+        (record { seat = H.seat hall.new; used_up = H.used_up hall.new }) (Line request) result }
+{
+    match request {
+        Request::Put(_) => unreachable!(),
+        Request::Flat {
+            id,
+            sel: Sel::All,
+            a,
+            b,
+        } => serve_flat(rt, alloc, hall, id, a, b),
+        Request::Quit => Reply::Quit,
     }
 }

@@ -1,15 +1,16 @@
-ghost use Rattle.std.specs.Prelude.{◌≡◌, ◌≤◌, ℕ, Some};
+ghost use Rattle.std.specs.Prelude.{◌≡◌, ◌≤◌, ℕ, Some, IsSome};
 ghost use Rattle.trace_base.specs.Outside.{Rose};
 ghost use Rattle.hall_trait.specs.Seat.{IsAtRest};
 ghost use Rattle.request_reader.specs.Incoming.{left_to_read};
+ghost use Rattle.request_reader.specs.Requests.{first_request};
 ghost use Rattle.trace_session.specs.Session.{IsSession};
-ghost use Rattle.trace_session.specs.Step.{Steps, EndsEarly};
+ghost use Rattle.trace_session.specs.Step.{Steps, end_at};
 ghost use Rattle.trace_session.specs.declared.sessions.End.TheVariants.{ReadFault, WriteFault};
 
 use crate::answer::answer;
 use crate::buffer::SessionBuf;
 use hall_trait::Hall;
-use request_reader::{Incoming, next_request};
+use request_reader::{InputEnd, next_request};
 use std::alloc::Global;
 use std::sync::Wait;
 use trace_base::{Sink, Source};
@@ -41,9 +42,17 @@ pub fn session<R: Wait, H: Hall, I: Source, O: Sink>(
     buf: &mut SessionBuf,
 ) -> End
     requires { IsAtRest (H.seat hall.old) }
-    ensures session { IsSession H.alone (H.seat hall.old) (H.seat hall.new) (H.limits hall.old)
-        (H.limits hall.new)
-        (I.left input.old) (I.left input.new) (O.held output.old) (O.held output.new) result }
+    ensures session { IsSession H.alone
+        (record {
+          store = record { seat = H.seat hall.old; used_up = H.used_up hall.old };
+          left = I.left input.old;
+          held = O.held output.old;
+        })
+        (record {
+          store = record { seat = H.seat hall.new; used_up = H.used_up hall.new };
+          left = I.left input.new;
+          held = O.held output.new;
+        }) result }
     ensures read_fault { result ≡ ReadFault → Rose (I.faults input.old) (I.faults input.new) }
     ensures write_fault { result ≡ WriteFault → Rose (O.faults output.old) (O.faults output.new) }
 {
@@ -56,7 +65,8 @@ pub fn session<R: Wait, H: Hall, I: Source, O: Sink>(
     unreachable!()
 }
 
-// Reads the next request and answers it. The session goes on where that gives no end.
+// Reads the next request and answers it. The session goes on where that gives no end. The source isn't asked
+// where a whole request waits.
 fn step<R: Wait, H: Hall, I: Source, O: Sink>(
     rt: &R,
     alloc: Global,
@@ -66,34 +76,37 @@ fn step<R: Wait, H: Hall, I: Source, O: Sink>(
     buf: &mut SessionBuf,
 ) -> Option<End>
     requires { IsAtRest (H.seat hall.old) }
-    ensures steps { Steps H.alone (H.seat hall.old) (H.seat hall.new) (H.limits hall.old) (H.limits hall.new)
-        (left_to_read buf.old.input.pending (I.left input.old))
-        (left_to_read buf.new.input.pending (I.left input.new))
-        (O.held output.old) (O.held output.new) buf.new.input.pending result }
+    ensures steps { Steps H.alone
+        (record {
+          store = record { seat = H.seat hall.old; used_up = H.used_up hall.old };
+          left = left_to_read buf.old.input.pending (I.left input.old);
+          held = O.held output.old;
+        })
+        (record {
+          store = record { seat = H.seat hall.new; used_up = H.used_up hall.new };
+          left = left_to_read buf.new.input.pending (I.left input.new);
+          held = O.held output.new;
+        })
+        buf.new.input.pending result }
+    ensures unasked { IsSome (first_request buf.old.input.pending) → input.new ≡ input.old }
     ensures reads { I.faults input.old ≤ I.faults input.new }
     ensures writes { O.faults output.old ≤ O.faults output.new }
     ensures read_fault { result ≡ Some ReadFault → Rose (I.faults input.old) (I.faults input.new) }
     ensures write_fault { result ≡ Some WriteFault → Rose (O.faults output.old) (O.faults output.new) }
 {
-    let incoming = next_request(rt, input, &mut buf.input);
-    match early_end(incoming) {
-        Some(end) => Some(end),
-        None => answer(rt, alloc, hall, incoming, output, buf),
+    match next_request(rt, input, &mut buf.input) {
+        Ok(incoming) => answer(rt, alloc, hall, incoming, output, buf),
+        Err(end) => Some(end_at(end)),
     }
 }
 
-// The end of the session where no request came.
-fn early_end(incoming: Incoming) -> Option<End>
-    ensures { EndsEarly incoming result }
+// The end of the session at the end of its input.
+fn end_at(end: InputEnd) -> End
+    ensures { result ≡ end_at end }
 {
-    match incoming {
-        Incoming::End => Some(End::Eof),
-        Incoming::Cut => Some(End::Cut),
-        Incoming::Failed => Some(End::ReadFault),
-        Incoming::Put => None,
-        Incoming::Dropped => None,
-        Incoming::Flat { .. } => None,
-        Incoming::Quit => None,
-        Incoming::Unreadable => None,
+    match end {
+        InputEnd::End => End::Eof,
+        InputEnd::Cut => End::Cut,
+        InputEnd::Failed => End::ReadFault,
     }
 }

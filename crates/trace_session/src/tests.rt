@@ -2,7 +2,7 @@
 ghost use Rattle.std.specs.Prelude.{◌≤◌};
 
 use crate::{End, SessionBuf, run, session};
-use hall_trait::PlainHall;
+use plain_hall::PlainHall;
 use std::alloc::Global;
 use std::process::Abort;
 use std::sync::Wait;

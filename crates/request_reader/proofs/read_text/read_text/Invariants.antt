@@ -1,4 +1,4 @@
-use Rattle.std.proofs.Common.{◌≡◌, ◌-◌, ◌≤◌, length}
+use Rattle.std.proofs.Common.{◌≡◌, ◌+◌, ◌-◌, ◌≤◌, length}
 use Rattle.std.specs.Prelude.{vec_capacity}
 use Rattle.request_reader.specs.Incoming.{Takes, left_to_read}
 use Rattle.request_reader.proofs.read_text.read_text.Given as goal
@@ -9,6 +9,8 @@ invariant-loop-pending g l = record {
       (left_to_read l.pending (g.I.Source.left l.input)) (λ taken. taken ≡ l.text.items);
   count : length l.text.items ≤ l.len;
   room : l.len ≤ vec_capacity l.text;
+  unasked : l.len ≤ length l.fn.pending
+      → (length l.pending + length l.text.items ≡ length l.fn.pending) × (l.input ≡ l.fn.input);
   later : g.I.Faults.faults l.fn.input ≤ g.I.Faults.faults l.input;
 }
 

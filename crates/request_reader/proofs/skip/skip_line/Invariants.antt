@@ -1,11 +1,14 @@
-use Rattle.std.proofs.Common.{◌≤◌}
+use Rattle.std.proofs.Common.{◌≡◌, ◌≤◌, ℕ, List, ◌∷◌, ◌++◌}
 use Rattle.request_reader.specs.Incoming.{Takes, left_to_read}
 use Rattle.request_reader.specs.Skipping.{HasNoNewline}
+use Rattle.request_reader.proofs.Unasked.{LineWaits}
 use Rattle.request_reader.proofs.skip.skip_line.Given as goal
 
 abbrev pub invariant-bytes : goal.invariant-bytes
 invariant-bytes g l = record {
   taken : Takes (left_to_read l.fn.pending (g.I.Source.left l.fn.input))
       (left_to_read l.pending (g.I.Source.left l.input)) HasNoNewline;
+  unasked : (line rest : List ℕ) → HasNoNewline line → l.fn.pending ≡ line ++ 10 ∷ rest
+      → LineWaits l.pending l.fn.input l.input rest;
   later : g.I.Faults.faults l.fn.input ≤ g.I.Faults.faults l.input;
 }

@@ -12,7 +12,7 @@ loop-s-init g c = record {
   loading = Loading-start g.H.Hall.alone (g.H.Hall.seat c.args.hall.now) c.args.pass c.args.tracks
       c.requires.passes c.requires.pins c.requires.fresh c.requires.tracks;
   rest = search rules;
-  limits = refl;
+  used_up = refl;
 }
 
 pub keep-requires-clause-fits : goal.keep-requires-clause-fits
@@ -36,10 +36,10 @@ loop-s-preserved g c =
     record {
       loading = Loading-more g.H.Hall.alone (g.H.Hall.seat c.args.hall.now) (g.H.Hall.seat c.loop-s.hall)
           (g.H.Hall.seat c.keep.new.self) c.args.pass.id c.args.tracks c.loop-s.yielded c.in-Some.s
-          c.loop-s.pass c.keep.new.pass c.in-Ok.field-0 c.loop-s.invariant.loading
-          (c.in-Ok.ensures.answer (length c.loop-s.yielded) next.0);
+          c.loop-s.pass c.keep.new.pass c.in-Ok.field-0 c.loop-s.invariant.loading next.0
+          (c.in-Ok.ensures.answer (length c.loop-s.yielded) next.0) c.in-Ok.ensures.pass;
       rest = append_assoc c.loop-s.yielded (c.in-Some.s ∷ []) (into_iter_items c.next.new.self) ∙ whole;
-      limits = c.in-Ok.ensures.records ∙ c.loop-s.invariant.limits;
+      used_up = c.in-Ok.ensures.records ∙ c.loop-s.invariant.used_up;
     }
 
 pub returns-in-Err-clause-published : goal.returns-in-Err-clause-published
@@ -53,7 +53,7 @@ returns-in-Err-clause-published g c =
     let kept = c.in-Err.ensures.answer (length c.loop-s.yielded) next.0 in
     let now = Loading-same g.H.Hall.alone (g.H.Hall.seat c.args.hall.now) (g.H.Hall.seat c.loop-s.hall)
     (g.H.Hall.seat c.keep.new.self) c.args.pass.id c.args.tracks c.loop-s.yielded c.loop-s.pass
-    c.keep.new.pass kept.1 kept.2 c.loop-s.invariant.loading in
+    c.keep.new.pass kept.1 c.in-Err.ensures.pass c.loop-s.invariant.loading in
     Loading-dropped g.H.Hall.alone (g.H.Hall.seat c.args.hall.now) (g.H.Hall.seat c.keep.new.self)
     (g.H.Hall.seat c.abandon.new.self) c.args.pass.id c.args.tracks c.loop-s.yielded
     (c.in-Some.s ∷ into_iter_items c.next.new.self) c.keep.new.pass c.abandon.result now whole

@@ -8,5 +8,5 @@ invariant-loop-s g l = record {
   loading : Loading g.H.Hall.alone (g.H.Hall.seat l.fn.hall) (g.H.Hall.seat l.hall) l.fn.pass.id l.fn.tracks
       l.yielded l.pass;
   rest : l.yielded ++ into_iter_items l.s-iterator ≡ l.fn.tracks;
-  limits : g.H.Hall.limits l.hall ≡ g.H.Hall.limits l.fn.hall;
+  used_up : g.H.Hall.used_up l.hall ≡ g.H.Hall.used_up l.fn.hall;
 }

@@ -5,10 +5,17 @@ use Rattle.trace_session.proofs.sessions.session.Given as goal
 
 abbrev pub invariant-requests : goal.invariant-requests
 invariant-requests g l = record {
-  sofar : Sofar g.H.Hall.alone (g.H.Hall.seat l.fn.hall) (g.H.Hall.seat l.hall) (g.H.Hall.limits l.fn.hall)
-      (g.H.Hall.limits l.hall) (g.I.Source.left l.fn.input)
-      (left_to_read l.buf.input.pending (g.I.Source.left l.input)) (g.O.Sink.held l.fn.output)
-      (g.O.Sink.held l.output);
+  sofar : Sofar g.H.Hall.alone
+      (record {
+        store = record { seat = g.H.Hall.seat l.fn.hall; used_up = g.H.Hall.used_up l.fn.hall };
+        left = g.I.Source.left l.fn.input;
+        held = g.O.Sink.held l.fn.output;
+      })
+      (record {
+        store = record { seat = g.H.Hall.seat l.hall; used_up = g.H.Hall.used_up l.hall };
+        left = left_to_read l.buf.input.pending (g.I.Source.left l.input);
+        held = g.O.Sink.held l.output;
+      });
   reads : g.I.Faults.faults l.fn.input ≤ g.I.Faults.faults l.input;
   writes : g.O.Faults.faults l.fn.output ≤ g.O.Faults.faults l.output;
 }

@@ -1,0 +1,185 @@
+-- What a history tells of a trace was in one of its entries, and stays.
+use Rattle.std.proofs.Common.{◌≡◌, ℕ, Bool, true, false, ◌||◌, ◌&&◌, not, cond, eqb, List, [], ◌∷◌, ◌++◌}
+use Rattle.std.proofs.Common.{length, take, drop, Option, None, Some, refl, sym, ap, ◌∙◌, arith, suc}
+use Rattle.std.proofs.Common.{length-append, Contains, get_or, map, subst, Bor}
+use Rattle.std.specs.Prelude.{slice_get, is_some, IsSome, IfSome}
+use Rattle.std.specs.List.{list_any, filter_map, cons_option}
+use Rattle.std.specs.Option.{option_or, option_to_list, option_copied, ForSome}
+use Rattle.std.proofs.lemmas.List.{take-append-drop, take-append-le, take_all}
+use Rattle.trace_base.specs.Info.{IsLegalInfo}
+use Rattle.trace_base.specs.declared.names.TraceInfo.{TraceInfo}
+use Rattle.trace_base.specs.declared.stream.TrackStream.{TrackStream}
+use Rattle.hall_trait.specs.History.{Entry, Opened, Published, Sealed, Dropped, Closed, Asked, opened_id}
+use Rattle.hall_trait.specs.History.{info_opened, stream_published, ends, opened_ids, info_of, stream_of}
+use Rattle.hall_trait.specs.History.{is_open, FitsTrack, MayFollow, IsLegalHistory}
+use Rattle.hall_trait.specs.Pin.{first_id, second_id, id_at}
+use Rattle.plain_hall.specs.PlainSeat.{IsHeld, kept_view}
+use Rattle.hall_trait.specs.Seat.{PinView}
+use Rattle.plain_hall.specs.declared.kept_pin.KeptPin.{KeptPin}
+use Rattle.std.proofs.lemmas.Bool.{eqb-true}
+use Rattle.plain_hall.proofs.Legal.{and_left, and_right}
+use Rattle.plain_hall.proofs.Blocks.{first}
+use Rattle.hall_trait.proofs.More.{first-append}
+
+-- the value is that of an item
+abbrev IsGivenBy : {X Y : Type 0} → (X → Option Y) → List X → Y → Type 0
+IsGivenBy {X} h xs y = (k : ℕ) × (x : X) × (slice_get xs k ≡ Some x) × (h x ≡ Some y)
+
+given_by_first : {X Y : Type 0} (h : X → Option Y) (x : X) (xs : List X) (y : Y)
+    → (first h xs ≡ Some y → IsGivenBy h xs y) → first h (x ∷ xs) ≡ Some y → (o : Option Y) → h x ≡ o
+    → IsGivenBy h (x ∷ xs) y
+given_by_first h x xs y later at None e =
+    let rest = later (sym (ap (λ o. slice_get (cons_option o (filter_map h xs)) 0) e) ∙ at) in
+    (suc rest.0, rest.1, rest.2, rest.3)
+given_by_first h x xs y later at (Some z) e =
+    (0, x, refl, e ∙ sym (ap (λ o. slice_get (cons_option o (filter_map h xs)) 0) e) ∙ at)
+
+found : {X Y : Type 0} (h : X → Option Y) (xs : List X) (y : Y) → first h xs ≡ Some y → IsGivenBy h xs y
+found h [] y at = absurd cc
+found h (x ∷ xs) y at = given_by_first h x xs y (found h xs y) at (h x) refl
+
+pub some_is : {X : Type 0} (x y : X) → ◌≡◌ {A = Option X} (Some x) (Some y) → x ≡ y
+some_is x y e = cc
+
+pub cond_some : {X : Type 0} (b : Bool) (x y : X) → cond b (Some x) None ≡ Some y → (b ≡ true) × (x ≡ y)
+cond_some true x y e = (refl, cc)
+cond_some false x y e = absurd cc
+
+opened_legal : (before : List Entry) (e : Entry) (id : ℕ) (info : TraceInfo) → info_opened id e ≡ Some info
+    → MayFollow before e → IsLegalInfo info
+opened_legal before (Opened other i) id info gives may = let P : TraceInfo → Type 0 = λ i. IsLegalInfo i
+    in subst P (cond_some (eqb other id) i info gives).1 may.1
+opened_legal before (Published other track s) id info gives may = absurd cc
+opened_legal before (Sealed other) id info gives may = absurd cc
+opened_legal before (Dropped other) id info gives may = absurd cc
+opened_legal before (Closed other) id info gives may = absurd cc
+opened_legal before Asked id info gives may = absurd cc
+
+-- what a trace of a legal history was opened with is legal
+pub info_legal : (entries : List Entry) (id : ℕ) (info : TraceInfo) → IsLegalHistory entries
+    → info_of entries id ≡ Some info → IsLegalInfo info
+unfolding info_of
+info_legal entries id info legal at =
+    let where_from = found (info_opened id) entries info at in
+    opened_legal (take where_from.0 entries) where_from.1 id info where_from.3
+    (legal where_from.0 where_from.1 where_from.2)
+
+some_stays : {X : Type 0} (o p : Option X) (x : X) → o ≡ Some x → option_or o p ≡ Some x
+some_stays o p x e = ap (λ o. option_or o p) e
+
+pub info_stays : (entries : List Entry) (n id : ℕ) (info : TraceInfo)
+    → info_of (take n entries) id ≡ Some info → info_of entries id ≡ Some info
+unfolding info_of
+info_stays entries n id info at = ap (first (info_opened id)) (sym (take-append-drop n entries)) ∙
+    first-append (info_opened id) (take n entries) (drop n entries) ∙ some_stays
+    (first (info_opened id) (take n entries)) _ info at
+
+-- what was told at a place is told later
+pub same_info : (entries : List Entry) (n id : ℕ) → IsSome (info_of (take n entries) id)
+    → info_of (take n entries) id ≡ info_of entries id
+same_info entries n id told = go (info_of (take n entries) id) refl told
+  where
+    go : (o : Option TraceInfo) → info_of (take n entries) id ≡ o → is_some o ≡ true
+        → info_of (take n entries) id ≡ info_of entries id
+    go None e t = absurd cc
+    go (Some info) e t = e ∙ sym (info_stays entries n id info e)
+
+published_fits : (before : List Entry) (e : Entry) (id track : ℕ) (s : TrackStream)
+    → stream_published id track e ≡ Some s → MayFollow before e → FitsTrack before id track s
+published_fits before (Published other which t) id track s gives may =
+    let both = cond_some (eqb other id && eqb which track) t s gives in
+    let same_id : other ≡ id = eqb-true other id (and_left _ _ both.0) in
+    let same_track : which ≡ track = eqb-true which track (and_right _ _ both.0) in
+    let P : ℕ → Type 0 = λ i. FitsTrack before i track s in
+    let Q : ℕ → Type 0 = λ i. FitsTrack before other i s in
+    let R : TrackStream → Type 0 = λ i. FitsTrack before other which i in
+    subst P same_id (subst Q same_track (subst R both.1 may.2))
+published_fits before (Opened other i) id track s gives may = absurd cc
+published_fits before (Sealed other) id track s gives may = absurd cc
+published_fits before (Dropped other) id track s gives may = absurd cc
+published_fits before (Closed other) id track s gives may = absurd cc
+published_fits before Asked id track s gives may = absurd cc
+
+-- a stream of a legal history fits its track
+pub stream_fits : (entries : List Entry) (id track : ℕ) (s : TrackStream) → IsLegalHistory entries
+    → stream_of entries id track ≡ Some s → FitsTrack entries id track s
+unfolding stream_of
+stream_fits entries id track s legal at =
+    let where_from = found (stream_published id track) entries s at in
+    let fits = published_fits (take where_from.0 entries) where_from.1 id track s where_from.3
+    (legal where_from.0 where_from.1 where_from.2) in
+    (fits.0, info_stays entries where_from.0 id fits.0 fits.1, fits.2, fits.3)
+
+among-told : (entries : List Entry) (id : ℕ) → list_any (λ other. eqb other id) (filter_map opened_id entries)
+    ≡ is_some (first (info_opened id) entries)
+among-told [] id = refl
+among-told (Opened other info ∷ entries) id =
+    elim (eqb other id) as (λ b. (b || list_any (λ other. eqb other id) (filter_map opened_id entries)) ≡
+    is_some (slice_get (cons_option (cond b (Some info) None) (filter_map (info_opened id) entries)) 0))
+    [ true ↦ refl | false ↦ among-told entries id ]
+among-told (Published other track s ∷ entries) id = among-told entries id
+among-told (Sealed other ∷ entries) id = among-told entries id
+among-told (Dropped other ∷ entries) id = among-told entries id
+among-told (Closed other ∷ entries) id = among-told entries id
+among-told (Asked ∷ entries) id = among-told entries id
+
+-- whether a trace is open, by what it was opened with
+pub open_by : (entries : List Entry) (id : ℕ)
+    → is_open entries id ≡ (is_some (info_of entries id) && not (list_any (ends id) entries))
+unfolding is_open opened_ids info_of
+open_by entries id = ap (λ b. b && not (list_any (ends id) entries)) (among-told entries id)
+
+pub open_told : (entries : List Entry) (id : ℕ) → is_open entries id ≡ true → IsSome (info_of entries id)
+open_told entries id on = and_left _ _ (sym (open_by entries id) ∙ on)
+
+-- a pin is held on
+pub held_more : (old new : List Entry) (e : Entry) (pin : Option KeptPin) → new ≡ old ++ e ∷ []
+    → ForSome pin (IsHeld old) → ForSome pin (IsHeld new)
+held_more old new e pin seen held p is =
+    let was = held p is in
+    let same : take p.place new ≡ take p.place old = ap (take p.place) seen ∙ take-append-le p.place old
+    (e ∷ []) was.place in
+    record {
+      place = omega (arith, was.place, ap length seen, length-append old (e ∷ []));
+      first = ap (λ es. is_some (info_of es (first_id p.ids))) same ∙ was.first;
+      second = ap (λ es. is_some (info_of es (second_id p.ids))) same ∙ was.second;
+    }
+
+pub held_now : (entries : List Entry) (pin : KeptPin) → pin.place ≡ length entries
+    → is_open entries (first_id pin.ids) ≡ true → is_open entries (second_id pin.ids) ≡ true
+    → IsHeld entries pin
+held_now entries pin last first_on second_on =
+    let same : take pin.place entries ≡ entries = take_all pin.place entries (omega arith) in
+    record {
+      place = omega arith;
+      first = ap (λ es. is_some (info_of es (first_id pin.ids))) same ∙ open_told entries _ first_on;
+      second = ap (λ es. is_some (info_of es (second_id pin.ids))) same ∙ open_told entries _ second_on;
+    }
+
+-- the pin of the seat is the one that is kept
+pub has_pin : (o : Option KeptPin) (view : PinView) → Contains (map kept_view (option_to_list o)) view
+    → (p : KeptPin) × (o ≡ Some p) × (kept_view p ≡ view)
+has_pin None view has = absurd (omega (arith, has.1))
+has_pin (Some p) view has =
+    let at : has.0 ≡ 0 = omega (arith, has.1) in
+    (p, refl, sym (ap (λ k. get_or (kept_view p ∷ []) k view) at) ∙ has.2)
+
+-- the stream that is given fits, if there is one
+pub given_fits : (entries : List Entry) (id track : ℕ) (given : Option (Bor TrackStream))
+    → IsLegalHistory entries → option_copied given ≡ stream_of entries id track
+    → IfSome given (λ s. FitsTrack entries id track s.now)
+given_fits entries id track None legal at = tt
+given_fits entries id track (Some s) legal at = stream_fits entries id track s.now legal (sym at)
+
+-- the info of a pin's trace is told, and is the one of its place
+pub pin_told : (entries : List Entry) (pin : Option KeptPin) (view : PinView) (which : ℕ)
+    → ForSome pin (IsHeld entries) → Contains (map kept_view (option_to_list pin)) view
+    → IsSome (info_of (take view.place entries) (id_at view.ids which))
+pin_told entries pin view which held has =
+    let here = has_pin pin view has in
+    let facts = held here.0 here.1 in
+    let P : PinView → Type 0 = λ v. IsSome (info_of (take v.place entries) (id_at v.ids which)) in
+    subst P here.2
+    (elim (eqb which 0) as (λ b. IsSome
+    (info_of (take here.0.place entries) (cond b (first_id here.0.ids) (second_id here.0.ids))))
+    [ true ↦ facts.first | false ↦ facts.second ])

@@ -1,0 +1,287 @@
+-- A legal and orderly history stays so with an entry that may follow.
+use Rattle.std.proofs.Common.{◌≡◌, ℕ, ◌+◌, ◌<◌, ◌≤◌, ◌⊎◌, inl, inr, Bool, true, false, ◌||◌, ◌&&◌, cond, eqb}
+use Rattle.std.proofs.Common.{ltb, List, [], ◌∷◌, ◌++◌, length, Option, None, Some, refl, sym, ap, ◌∙◌, subst}
+use Rattle.std.proofs.Common.{arith, length-append, take, suc, zero, length-take}
+use Rattle.std.specs.Prelude.{slice_get, is_some}
+use Rattle.std.specs.List.{list_any, range_with_len}
+use Rattle.std.specs.Option.{option_or, option_to_list, option_map_or}
+use Rattle.std.proofs.lemmas.List.{take-append-le, append-nil, take-take}
+use Rattle.std.proofs.Math.Seq.{take-append_seam}
+use Rattle.std.proofs.lemmas.Option.{slice_get_within}
+use Rattle.std.proofs.lemmas.Bool.{eq-eqb}
+use Rattle.std.proofs.lemmas.Bool.Decides.{eqb_tells, nat_tests}
+use Rattle.trace_base.specs.declared.names.TraceInfo.{TraceInfo}
+use Rattle.trace_base.specs.declared.stream.TrackStream.{TrackStream}
+use Rattle.hall_trait.specs.History.{Entry, Opened, Published, Sealed, Dropped, Closed, Asked, opened_id}
+use Rattle.hall_trait.specs.History.{opened_ids, info_of, stream_of, is_open, is_loading, tracks_of}
+use Rattle.hall_trait.specs.History.{published_count, MayFollow, IsLegalHistory}
+use Rattle.plain_hall.specs.Orderly.{IsOrderly, IsUnborn}
+use Rattle.hall_trait.proofs.More.{SameData, subject, opened_more, info_more, stream_more, count_more}
+use Rattle.hall_trait.proofs.More.{data_of_others, fate_of_others, data_sealed, data_dropped, data_closed}
+use Rattle.hall_trait.proofs.More.{data_asked, tracks_same, or_none}
+
+slice_get-append_left : {X : Type 0} (xs ys : List X) (k : ℕ) → k < length xs
+    → slice_get (xs ++ ys) k ≡ slice_get xs k
+slice_get-append_left [] ys k lt = absurd (omega arith)
+slice_get-append_left (x ∷ xs) ys zero lt = refl
+slice_get-append_left (x ∷ xs) ys (suc k) lt = slice_get-append_left xs ys k (omega arith)
+
+slice_get_seam : {X : Type 0} (xs : List X) (y : X) → slice_get (xs ++ y ∷ []) (length xs) ≡ Some y
+slice_get_seam [] y = refl
+slice_get_seam (x ∷ xs) y = slice_get_seam xs y
+
+pub less_or_more : (a b : ℕ) → (a < b) ⊎ (b ≤ a)
+less_or_more a b = grind arith
+
+some_same : {X : Type 0} (x y : X) → ◌≡◌ {A = Option X} (Some x) (Some y) → x ≡ y
+some_same x y e = cc
+
+pub legal_more : (entries : List Entry) (e : Entry) → IsLegalHistory entries → MayFollow entries e
+    → IsLegalHistory (entries ++ e ∷ [])
+legal_more entries e legal may k x found =
+    elim (less_or_more k (length entries)) [
+      | inl lt ↦
+          let same : take k (entries ++ e ∷ []) ≡ take k entries = take-append-le k entries (e ∷ [])
+          (omega arith) in
+          subst (λ (before : List Entry). MayFollow before x) (sym same)
+          (legal k x (sym (slice_get-append_left entries (e ∷ []) k lt) ∙ found))
+      | inr le ↦
+          let within : k < length (entries ++ e ∷ []) = slice_get_within _ k x found in
+          let last : k ≡ length entries = omega (arith, length-append entries (e ∷ [])) in
+          let same : take k (entries ++ e ∷ []) ≡ entries = ap (λ n. take n (entries ++ e ∷ [])) last ∙
+          take-append_seam entries (e ∷ []) in
+          let this : e ≡ x = some_same e x
+          (sym (slice_get_seam entries e) ∙ ap (slice_get (entries ++ e ∷ [])) (sym last) ∙ found) in
+          subst (λ (before : List Entry). MayFollow before x) (sym same)
+          (subst (λ (y : Entry). MayFollow entries y) this may)
+    ]
+
+slice_get-take : {X : Type 0} (n : ℕ) (xs : List X) (k : ℕ) → k < n → slice_get (take n xs) k ≡ slice_get xs k
+slice_get-take zero [] k lt = refl
+slice_get-take (suc n) [] k lt = refl
+slice_get-take zero (x ∷ xs) k lt = absurd (omega arith)
+slice_get-take (suc n) (x ∷ xs) zero lt = refl
+slice_get-take (suc n) (x ∷ xs) (suc k) lt = slice_get-take n xs k (omega arith)
+
+-- a legal history was legal all along
+pub legal_before : (entries : List Entry) (n : ℕ) → IsLegalHistory entries → IsLegalHistory (take n entries)
+legal_before entries n legal k x found =
+    let within : k < length (take n entries) = slice_get_within _ k x found in
+    let short : k < n = omega (arith, length-take n entries) in
+    let same : take k (take n entries) ≡ take k entries = take-take k n entries (omega arith) in
+    subst (λ (before : List Entry). MayFollow before x) (sym same)
+    (legal k x (sym (slice_get-take n entries k short) ∙ found))
+
+pub range_more : (a n : ℕ) → range_with_len a n ++ (a + n) ∷ [] ≡ range_with_len a (n + 1)
+range_more a zero = let e : a + 0 ≡ a = omega arith in ap (λ x. x ∷ []) e
+range_more a (suc n) =
+    let e : a + suc n ≡ a + 1 + n = omega arith in
+    ap (λ x. a ∷ range_with_len (a + 1) n ++ x ∷ []) e ∙ ap (λ xs. a ∷ xs) (range_more (a + 1) n) ∙ ap
+    (range_with_len a) (let f : suc (n + 1) ≡ suc n + 1 = omega arith in f)
+
+pub in_range : (a n x : ℕ) → list_any (λ other. eqb other x) (range_with_len a n) ≡ true → (a ≤ x)
+    × (x < a + n)
+in_range a zero x any = absurd cc
+in_range a (suc n) x any =
+    elim (eqb_tells a x) [
+      | inl same ↦ (omega arith, omega arith)
+      | inr other ↦
+          let rest : list_any (λ other. eqb other x) (range_with_len (a + 1) n) ≡ true =
+          sym (ap (λ b. b || list_any (λ other. eqb other x) (range_with_len (a + 1) n)) other.0) ∙ any in
+          let within = in_range (a + 1) n x rest in
+          (omega arith, omega arith)
+    ]
+
+pub and_right : (a b : Bool) → (a && b) ≡ true → b ≡ true
+and_right true b e = e
+and_right false b e = absurd cc
+
+pub and_left : (a b : Bool) → (a && b) ≡ true → a ≡ true
+and_left true b e = refl
+and_left false b e = e
+
+-- an open trace has an id that was given
+pub open_within : (entries : List Entry) (id : ℕ) → IsOrderly entries → is_open entries id ≡ true → (1 ≤ id)
+    × (id ≤ length (opened_ids entries))
+unfolding is_open
+open_within entries id orderly on =
+    let among : list_any (λ other. eqb other id) (opened_ids entries) ≡ true = and_left _ _ on in
+    let within = in_range 1 (length (opened_ids entries)) id
+    (sym (ap (list_any (λ other. eqb other id)) orderly.ids) ∙ among) in
+    (within.0, omega arith)
+
+pub loading_open : (entries : List Entry) (id : ℕ) → is_loading entries id ≡ true → is_open entries id ≡ true
+unfolding is_loading
+loading_open entries id loading = and_left _ _ loading
+
+-- the track that the entry publishes is the next of its trace
+abbrev pub IsInTurn : List Entry → Entry → Type 0
+IsInTurn entries (Published id track stream) = track ≡ published_count entries id
+IsInTurn entries (Opened id info) = Unit {0}
+IsInTurn entries (Sealed id) = Unit {0}
+IsInTurn entries (Dropped id) = Unit {0}
+IsInTurn entries (Closed id) = Unit {0}
+IsInTurn entries Asked = Unit {0}
+
+-- the subject has an id that is given after the entry
+subject_within : (entries : List Entry) (e : Entry) → IsOrderly entries → MayFollow entries e
+    → subject e ≤ length (opened_ids (entries ++ e ∷ []))
+subject_within entries (Opened id info) orderly may = rw (opened_more entries (Opened id info))
+    (omega (arith, length-append (opened_ids entries) (id ∷ []), may.0))
+subject_within entries (Published id track s) orderly may =
+    rw (opened_more entries (Published id track s), append-nil)
+    (open_within entries id orderly (loading_open entries id may.0)).1
+subject_within entries (Sealed id) orderly may = rw (opened_more entries (Sealed id), append-nil)
+    (open_within entries id orderly (loading_open entries id may.0)).1
+subject_within entries (Dropped id) orderly may = rw (opened_more entries (Dropped id), append-nil)
+    (open_within entries id orderly (loading_open entries id may)).1
+subject_within entries (Closed id) orderly may = rw (opened_more entries (Closed id), append-nil)
+    (open_within entries id orderly may.0).1
+subject_within entries Asked orderly may = omega arith
+
+-- no fewer ids
+ids_grow : (entries : List Entry) (e : Entry) → length (opened_ids entries) ≤ length
+    (opened_ids (entries ++ e ∷ []))
+ids_grow entries e = rw (opened_more entries e)
+    (omega (arith, length-append (opened_ids entries) (option_to_list (opened_id e))))
+
+ids_more : (entries : List Entry) (e : Entry) → IsOrderly entries → MayFollow entries e
+    → opened_ids (entries ++ e ∷ []) ≡ range_with_len 1 (length (opened_ids (entries ++ e ∷ [])))
+ids_more entries (Opened id info) orderly may =
+    let more : opened_ids (entries ++ Opened id info ∷ []) ≡ opened_ids entries ++ id
+    ∷ [] = opened_more entries (Opened id info) in
+    let n = length (opened_ids entries) in
+    let next : id ≡ 1 + n = omega (arith, may.0) in
+    let count : length (opened_ids (entries ++ Opened id info ∷ [])) ≡ n + 1 = ap length more ∙ length-append
+    (opened_ids entries) (id ∷ []) in
+    more ∙ ap (λ i. opened_ids entries ++ i ∷ []) next ∙ ap (λ xs. xs ++ (1 + n) ∷ []) orderly.ids ∙
+    range_more 1 n ∙ ap (range_with_len 1) (sym count)
+ids_more entries (Published id track s) orderly may =
+    rw (opened_more entries (Published id track s), append-nil) orderly.ids
+ids_more entries (Sealed id) orderly may = rw (opened_more entries (Sealed id), append-nil) orderly.ids
+ids_more entries (Dropped id) orderly may = rw (opened_more entries (Dropped id), append-nil) orderly.ids
+ids_more entries (Closed id) orderly may = rw (opened_more entries (Closed id), append-nil) orderly.ids
+ids_more entries Asked orderly may = rw (opened_more entries Asked, append-nil) orderly.ids
+
+-- the two facts about one trace
+record IsInOrder (entries : List Entry) (id : ℕ) : Type 0 where
+  counted : published_count entries id ≤ tracks_of entries id
+  in_order : (track : ℕ) → is_some (stream_of entries id track) ≡ ltb track (published_count entries id)
+
+in_order_same : (old new : List Entry) (id : ℕ) → SameData old new id → IsInOrder old id → IsInOrder new id
+in_order_same old new id same was = record {
+  counted = rw (same.count, tracks_same old new id same) was.counted;
+  in_order = λ track. rw (same.streams track, same.count) (was.in_order track);
+}
+
+-- a trace of which no entry tells has no tracks
+unborn_tracks : (entries : List Entry) (id : ℕ) → IsUnborn entries id → tracks_of entries id ≡ 0
+unborn_tracks entries id none = elim (info_of entries id) as (λ o. is_some o ≡ false
+    → option_map_or (λ (info : TraceInfo). length info.names.tracks) o 0 ≡ 0) [
+      | None ↦ λ e. refl
+      | Some info ↦ λ e. absurd cc
+    ] none.info
+
+is_some-or : {X : Type 0} (o : Option X) (x : X) → is_some (option_or o (Some x)) ≡ true
+is_some-or None x = refl
+is_some-or (Some y) x = refl
+
+in_order_published : (entries : List Entry) (id which : ℕ) (s : TrackStream) → IsOrderly entries
+    → MayFollow entries (Published id which s) → which ≡ published_count entries id
+    → IsInOrder (entries ++ Published id which s ∷ []) id
+in_order_published entries id which s orderly may turn =
+    let this : eqb id id ≡ true = eq-eqb id id refl in
+    let count : published_count (entries ++ Published id which s ∷ []) id ≡ published_count entries id
+    + 1 = count_more entries (Published id which s) id ∙ ap (λ b. published_count entries id + cond b 1 0)
+    this in
+    let told : tracks_of entries id ≡ length may.2.0.names.tracks =
+    ap (λ o. option_map_or (λ (info : TraceInfo). length info.names.tracks) o 0) may.2.1 in
+    let same : tracks_of (entries ++ Published id which s ∷ []) id ≡ tracks_of entries id =
+    ap (λ o. option_map_or (λ (info : TraceInfo). length info.names.tracks) o 0)
+    (info_more entries (Published id which s) id ∙ or_none _) in
+    let below : which < length may.2.0.names.tracks = may.2.2 in
+    record {
+      counted = omega arith;
+      in_order = λ track.
+          let now : stream_of (entries ++ Published id which s ∷ []) id track ≡ option_or
+          (stream_of entries id track) (cond (eqb which track) (Some s) None) = stream_more entries
+          (Published id which s) id track ∙ ap
+          (λ b. option_or (stream_of entries id track) (cond (b && eqb which track) (Some s) None)) this
+          in
+          let was : is_some (stream_of entries id track) ≡ ltb track (published_count entries id) =
+          orderly.in_order id track in
+          elim (eqb_tells which track) [
+            | inl at ↦
+                let last : ltb track (published_count entries id + 1) ≡ true = grind (arith, nat_tests) in
+                ap is_some now ∙ ap (λ b. is_some
+                (option_or (stream_of entries id track) (cond b (Some s) None))) at.0 ∙ is_some-or
+                (stream_of entries id track) s ∙ sym last ∙ ap (ltb track) (sym count)
+            | inr off ↦
+                let lasts : ltb track (published_count entries id + 1) ≡ ltb track
+                (published_count entries id) = grind (arith, nat_tests) in
+                ap is_some now ∙ ap (λ b. is_some
+                (option_or (stream_of entries id track) (cond b (Some s) None))) off.0 ∙ ap is_some
+                (or_none _) ∙ was ∙ sym lasts ∙ ap (ltb track) (sym count)
+          ];
+    }
+
+in_order_more : (entries : List Entry) (e : Entry) (id : ℕ) → IsOrderly entries → MayFollow entries e
+    → IsInTurn entries e → subject e ≡ id → IsInOrder entries id → IsInOrder (entries ++ e ∷ []) id
+in_order_more entries (Opened other info) id orderly may turn about was =
+    let count : published_count (entries ++ Opened other info ∷ []) id ≡ published_count entries id =
+    count_more entries (Opened other info) id ∙ omega arith in
+    let none : published_count entries id ≡ 0 =
+    omega (arith, was.counted, unborn_tracks entries id (orderly.unborn id (omega (arith, may.0)))) in
+    record {
+      counted = omega arith;
+      in_order = λ track. let same : stream_of (entries ++ Opened other info ∷ []) id track ≡ stream_of
+          entries id track = stream_more entries (Opened other info) id track ∙ or_none _
+          in rw (same, count) (was.in_order track);
+    }
+in_order_more entries (Published other which s) id orderly may turn about was =
+    subst (λ (i : ℕ). IsInOrder (entries ++ Published other which s ∷ []) i) about
+    (in_order_published entries other which s orderly may turn)
+in_order_more entries (Sealed other) id orderly may turn about was = in_order_same entries _ id
+    (data_sealed entries other id) was
+in_order_more entries (Dropped other) id orderly may turn about was = in_order_same entries _ id
+    (data_dropped entries other id) was
+in_order_more entries (Closed other) id orderly may turn about was = in_order_same entries _ id
+    (data_closed entries other id) was
+in_order_more entries Asked id orderly may turn about was = in_order_same entries _ id (data_asked entries id)
+    was
+
+pub orderly_more : (entries : List Entry) (e : Entry) → IsOrderly entries → MayFollow entries e
+    → IsInTurn entries e → IsOrderly (entries ++ e ∷ [])
+orderly_more entries e orderly may turn = record {
+  ids = ids_more entries e orderly may;
+  unborn = λ id above.
+      let ne : eqb (subject e) id ≡ false = grind (arith, nat_tests, subject_within entries e orderly may) in
+      let same = data_of_others entries e id ne in
+      let fate = fate_of_others entries e id ne in
+      let was = orderly.unborn id (omega (arith, ids_grow entries e)) in
+      record {
+        info = ap is_some same.info ∙ was.info;
+        ended = fate.ended ∙ was.ended;
+        sealed = fate.sealed ∙ was.sealed;
+      };
+  counted = λ id. (in_order_at id).counted;
+  in_order = λ id. (in_order_at id).in_order;
+}
+  where
+    in_order_at : (id : ℕ) → IsInOrder (entries ++ e ∷ []) id
+    in_order_at id =
+        let was : IsInOrder entries id =
+        record { counted = orderly.counted id; in_order = orderly.in_order id } in
+        elim (eqb_tells (subject e) id) [
+          | inl about ↦ in_order_more entries e id orderly may turn about.1 was
+          | inr other ↦ in_order_same entries _ id (data_of_others entries e id other.0) was
+        ]
+
+pub orderly_none : IsOrderly []
+unfolding opened_ids info_of stream_of published_count
+orderly_none = record {
+  ids = refl;
+  unborn = λ id above. record { info = refl; ended = refl; sealed = refl };
+  counted = λ id. omega arith;
+  in_order = λ id track. grind (arith, nat_tests);
+}

@@ -1,0 +1,372 @@
+-- What an entry does to the passes, the promised places and the open traces.
+use Rattle.std.proofs.Common.{◌≡◌, ℕ, ◌+◌, ◌-◌, ◌<◌, ◌≤◌, Bool, true, false, ◌&&◌, ◌||◌, not, cond, eqb, List}
+use Rattle.std.proofs.Common.{[], ◌∷◌, ◌++◌, length, map, filter, sum_by, Option, None, Some, refl, sym, ap}
+use Rattle.std.proofs.Common.{ap₂, ◌∙◌, arith, length-append, append_assoc, get_or, Contains}
+use Rattle.std.specs.Prelude.{is_some}
+use Rattle.std.specs.List.{list_any}
+use Rattle.std.specs.Option.{option_map_or, option_or}
+use Rattle.std.proofs.Math.Path.{fun_ext}
+use Rattle.std.proofs.lemmas.List.{append-nil, map-append, get_or-map, length-map}
+use Rattle.std.proofs.lemmas.List.Elements.{filter-append, filter_passes}
+use Rattle.std.proofs.lemmas.List.Folds.{list_any-append}
+use Rattle.std.proofs.lemmas.List.Sums.{sum_by-append}
+use Rattle.std.proofs.lemmas.Bool.{eq-eqb}
+use Rattle.trace_base.specs.declared.names.TraceInfo.{TraceInfo}
+use Rattle.trace_base.specs.declared.stream.TrackStream.{TrackStream}
+use Rattle.hall_trait.specs.History.{Entry, Opened, Published, Sealed, Dropped, Asked, seals, ends}
+use Rattle.hall_trait.specs.History.{opened_ids, info_of, is_open, is_loading, open_ids, tracks_of}
+use Rattle.hall_trait.specs.History.{published_count, promised}
+use Rattle.plain_hall.specs.Loading.{loading_ids, pass_of, passes_of}
+use Rattle.plain_hall.specs.Orderly.{IsOrderly}
+use Rattle.hall_trait.specs.Seat.{PassView, Adds, Removes, Replaces}
+use Rattle.plain_hall.proofs.Legal.{open_within, loading_open}
+use Rattle.hall_trait.proofs.More.{SameData, SameFate, subject, opened_more, info_more, count_more, any_more}
+use Rattle.hall_trait.proofs.More.{or_false, data_of_others, fate_of_others, data_asked, fate_asked}
+use Rattle.hall_trait.proofs.More.{fate_published, open_same, loading_same, tracks_same}
+use Rattle.plain_hall.proofs.Ranges.{Lacks, AgreeBut, Around, filters_around, map_same, sum_same, filter_same}
+use Rattle.plain_hall.proofs.Ranges.{range_below, Lacks-filter}
+
+-- the places that are promised to the trace, if it is loading
+abbrev pub promise_of : List Entry → ℕ → ℕ
+promise_of entries id = tracks_of entries id - published_count entries id + 1
+
+-- the histories agree on all traces but one
+pub record AgreeOnOthers (old new : List Entry) (id : ℕ) : Type 0 where
+  pub opens : AgreeBut id (is_open old) (is_open new)
+  pub loads : AgreeBut id (is_loading old) (is_loading new)
+  pub passes : AgreeBut id (pass_of old) (pass_of new)
+  pub promises : AgreeBut id (promise_of old) (promise_of new)
+
+pass_same : (old new : List Entry) (id : ℕ) → SameData old new id → pass_of new id ≡ pass_of old id
+pass_same old new id same = rw (same.count, tracks_same old new id same) refl
+
+promise_same : (old new : List Entry) (id : ℕ) → SameData old new id → promise_of new id ≡ promise_of old id
+promise_same old new id same = rw (same.count, tracks_same old new id same) refl
+
+others_agree : (entries : List Entry) (e : Entry) → AgreeOnOthers entries (entries ++ e ∷ []) (subject e)
+others_agree entries e = record {
+  opens = λ x ne. open_same entries _ x (data_of_others entries e x ne) (fate_of_others entries e x ne);
+  loads = λ x ne. loading_same entries _ x (data_of_others entries e x ne) (fate_of_others entries e x ne);
+  passes = λ x ne. pass_same entries _ x (data_of_others entries e x ne);
+  promises = λ x ne. promise_same entries _ x (data_of_others entries e x ne);
+}
+
+-- the loading traces before and after, around one of them
+loads_around : (old new : List Entry) (id : ℕ) → IsOrderly old → opened_ids new ≡ opened_ids old
+    → AgreeOnOthers old new id → is_open old id ≡ true → Around (is_loading old) (is_loading new) id
+    (opened_ids old)
+loads_around old new id orderly ids agree on =
+    let within = open_within old id orderly on in
+    rw orderly.ids (filters_around (is_loading old) (is_loading new) id (length (opened_ids old)) agree.loads
+    within.0 within.1)
+
+loading_same_by : (old new : List Entry) (id : ℕ) → opened_ids new ≡ opened_ids old → SameFate old new id
+    → is_loading new id ≡ is_loading old id
+unfolding is_loading is_open
+loading_same_by old new id ids fate = rw (ids, fate.ended, fate.sealed) refl
+
+open_same_by : (old new : List Entry) (id : ℕ) → opened_ids new ≡ opened_ids old
+    → list_any (ends id) new ≡ list_any (ends id) old → is_open new id ≡ is_open old id
+unfolding is_open
+open_same_by old new id ids ended = rw (ids, ended) refl
+
+-- nothing changes
+pub record KeepsAll (old new : List Entry) : Type 0 where
+  pub passes : passes_of new ≡ passes_of old
+  pub promises : promised new ≡ promised old
+  pub opens : length (open_ids new) ≡ length (open_ids old)
+  pub ids : opened_ids new ≡ opened_ids old
+
+pub asked_keeps : (entries : List Entry) → KeepsAll entries (entries ++ Asked ∷ [])
+unfolding promised open_ids
+asked_keeps entries =
+    let new = entries ++ Asked ∷ [] in
+    let ids : opened_ids new ≡ opened_ids entries = opened_more entries Asked ∙ append-nil _ in
+    let loads : is_loading new ≡ is_loading entries =
+    fun_ext (λ x. loading_same_by entries new x ids (fate_asked entries x)) in
+    let opens : is_open new ≡ is_open entries =
+    fun_ext (λ x. open_same_by entries new x ids (fate_asked entries x).ended) in
+    let passes : pass_of new ≡ pass_of entries = fun_ext (λ x. pass_same entries new x (data_asked entries x))
+    in
+    let promises : promise_of new ≡ promise_of entries =
+    fun_ext (λ x. promise_same entries new x (data_asked entries x)) in
+    record {
+      passes = ap₂ map passes (ap₂ filter loads ids);
+      promises = ap₂ sum_by promises (ap₂ filter loads ids);
+      opens = ap length (ap₂ filter opens ids);
+      ids = ids;
+    }
+
+-- a sum and a map over the parts
+sum_mid : (f : ℕ → ℕ) (front mid back : List ℕ) → sum_by f (front ++ mid ++ back) ≡ sum_by f front
+    + sum_by f mid + sum_by f back
+sum_mid f front mid back = sum_by-append f (front ++ mid) back ∙ ap (λ n. n + sum_by f back)
+    (sum_by-append f front mid)
+
+map_mid : {X : Type 0} (f : ℕ → X) (front : List ℕ) (id : ℕ) (back : List ℕ)
+    → map f (front ++ id ∷ [] ++ back) ≡ map f front ++ f id ∷ map f back
+map_mid f front id back = map-append f (front ++ id ∷ []) back ∙ ap (λ xs. xs ++ map f back)
+    (map-append f front (id ∷ [])) ∙ append_assoc (map f front) (f id ∷ []) (map f back)
+
+-- One pass goes on, with one promised place fewer.
+pub record GoesOn (old new : List Entry) (id : ℕ) : Type 0 where
+  pub passes : Replaces (passes_of old) (passes_of new) (pass_of old id) (pass_of new id)
+  pub promises : promised old + promise_of new id ≡ promised new + promise_of old id
+  pub opens : length (open_ids new) ≡ length (open_ids old)
+  pub ids : opened_ids new ≡ opened_ids old
+
+pub published_goes_on : (entries : List Entry) (id track : ℕ) (s : TrackStream) → IsOrderly entries
+    → is_loading entries id ≡ true → GoesOn entries (entries ++ Published id track s ∷ []) id
+unfolding promised open_ids
+published_goes_on entries id track s orderly loading =
+    let new = entries ++ Published id track s ∷ [] in
+    let ids : opened_ids new ≡ opened_ids entries = opened_more entries (Published id track s) ∙ append-nil _
+    in
+    let loads : is_loading new ≡ is_loading entries =
+    fun_ext (λ x. loading_same_by entries new x ids (fate_published entries id track s x)) in
+    let opens : is_open new ≡ is_open entries =
+    fun_ext (λ x. open_same_by entries new x ids (fate_published entries id track s x).ended) in
+    let agree = others_agree entries (Published id track s) in
+    let parts = loads_around entries new id orderly ids agree (loading_open entries id loading) in
+    let was : loading_ids entries ≡ parts.front ++ id ∷ []
+    ++ parts.back = parts.old ∙ ap (λ b. parts.front ++ cond b (id ∷ []) [] ++ parts.back) loading in
+    let is : loading_ids new ≡ parts.front ++ id ∷ [] ++ parts.back = ap₂ filter loads ids ∙ was in
+    let front : map (pass_of new) parts.front ≡ map (pass_of entries) parts.front =
+    map_same _ _ id parts.front agree.passes parts.lacks_front in
+    let back : map (pass_of new) parts.back ≡ map (pass_of entries) parts.back = map_same _ _ id parts.back
+    agree.passes parts.lacks_back in
+    let sum_was : promised entries ≡ sum_by (promise_of entries) parts.front
+    + sum_by (promise_of entries) (id ∷ []) + sum_by (promise_of entries) parts.back =
+    ap (sum_by (promise_of entries)) was ∙ sum_mid _ parts.front (id ∷ []) parts.back in
+    let sum_is : promised new ≡ sum_by (promise_of new) parts.front + sum_by (promise_of new) (id ∷ [])
+    + sum_by (promise_of new) parts.back = ap (sum_by (promise_of new)) is ∙ sum_mid _ parts.front
+    (id ∷ []) parts.back in
+    let sum_front : sum_by (promise_of new) parts.front ≡ sum_by (promise_of entries) parts.front =
+    sum_same _ _ id parts.front agree.promises parts.lacks_front in
+    let sum_back : sum_by (promise_of new) parts.back ≡ sum_by (promise_of entries) parts.back =
+    sum_same _ _ id parts.back agree.promises parts.lacks_back in
+    record {
+      passes = record {
+        front = map (pass_of entries) parts.front;
+        back = map (pass_of entries) parts.back;
+        was = ap (map (pass_of entries)) was ∙ map_mid (pass_of entries) parts.front id parts.back;
+        now = ap (map (pass_of new)) is ∙ map_mid (pass_of new) parts.front id parts.back ∙ ap₂
+            (λ xs ys. xs ++ pass_of new id ∷ ys) front back;
+      };
+      promises = omega arith;
+      opens = ap length (ap₂ filter opens ids);
+      ids = ids;
+    }
+
+-- One pass is gone, with the places promised to its trace.
+pub record Ends (old new : List Entry) (id : ℕ) : Type 0 where
+  pub passes : Removes (passes_of old) (passes_of new) (pass_of old id)
+  pub promises : promised old ≡ promised new + promise_of old id
+  pub ids : opened_ids new ≡ opened_ids old
+
+ends_by : (old new : List Entry) (id : ℕ) → IsOrderly old → is_loading old id ≡ true
+    → is_loading new id ≡ false → opened_ids new ≡ opened_ids old → AgreeOnOthers old new id → Ends old new id
+unfolding promised
+ends_by old new id orderly loading ended ids agree =
+    let parts = loads_around old new id orderly ids agree (loading_open old id loading) in
+    let was : loading_ids old ≡ parts.front ++ id ∷ []
+    ++ parts.back = parts.old ∙ ap (λ b. parts.front ++ cond b (id ∷ []) [] ++ parts.back) loading in
+    let is : loading_ids new ≡ parts.front ++ [] ++ parts.back = ap (filter (is_loading new)) ids ∙ parts.new
+    ∙ ap (λ b. parts.front ++ cond b (id ∷ []) [] ++ parts.back) ended in
+    let front : map (pass_of new) parts.front ≡ map (pass_of old) parts.front = map_same _ _ id parts.front
+    agree.passes parts.lacks_front in
+    let back : map (pass_of new) parts.back ≡ map (pass_of old) parts.back = map_same _ _ id parts.back
+    agree.passes parts.lacks_back in
+    let sum_was : promised old ≡ sum_by (promise_of old) parts.front + sum_by (promise_of old) (id ∷ [])
+    + sum_by (promise_of old) parts.back = ap (sum_by (promise_of old)) was ∙ sum_mid _ parts.front
+    (id ∷ []) parts.back in
+    let sum_is : promised new ≡ sum_by (promise_of new) parts.front + sum_by (promise_of new) []
+    + sum_by (promise_of new) parts.back = ap (sum_by (promise_of new)) is ∙ sum_mid _ parts.front []
+    parts.back in
+    let sum_front : sum_by (promise_of new) parts.front ≡ sum_by (promise_of old) parts.front =
+    sum_same _ _ id parts.front agree.promises parts.lacks_front in
+    let sum_back : sum_by (promise_of new) parts.back ≡ sum_by (promise_of old) parts.back =
+    sum_same _ _ id parts.back agree.promises parts.lacks_back in
+    record {
+      passes = record {
+        front = map (pass_of old) parts.front;
+        back = map (pass_of old) parts.back;
+        was = ap (map (pass_of old)) was ∙ map_mid (pass_of old) parts.front id parts.back;
+        now = ap (map (pass_of new)) is ∙ map-append (pass_of new) (parts.front ++ []) parts.back ∙ ap
+            (λ xs. map (pass_of new) xs ++ map (pass_of new) parts.back) (append-nil parts.front) ∙ ap₂ ◌++◌
+            front back;
+      };
+      promises = omega arith;
+      ids = ids;
+    }
+
+or_true : (a b : Bool) → b ≡ true → (a || b) ≡ true
+or_true true b e = refl
+or_true false b e = e
+
+pub and_not : (a b : Bool) → b ≡ true → (a && not b) ≡ false
+and_not true b e = ap not e
+and_not false b e = refl
+
+pub sealed_ends : (entries : List Entry) (id : ℕ) → IsOrderly entries → is_loading entries id ≡ true
+    → Ends entries (entries ++ Sealed id ∷ []) id
+unfolding is_loading
+sealed_ends entries id orderly loading =
+    let new = entries ++ Sealed id ∷ [] in
+    let sealed : list_any (seals id) new ≡ true = any_more (seals id) entries (Sealed id) ∙ or_true _ _
+    (eq-eqb id id refl) in
+    ends_by entries new id orderly loading (and_not (is_open new id) _ sealed)
+    (opened_more entries (Sealed id) ∙ append-nil _) (others_agree entries (Sealed id))
+
+-- a sealed trace stays open
+pub sealed_opens : (entries : List Entry) (id : ℕ) → length (open_ids (entries ++ Sealed id ∷ [])) ≡ length
+    (open_ids entries)
+unfolding open_ids
+sealed_opens entries id =
+    let new = entries ++ Sealed id ∷ [] in
+    let ids : opened_ids new ≡ opened_ids entries = opened_more entries (Sealed id) ∙ append-nil _ in
+    let opens : is_open new ≡ is_open entries =
+    fun_ext (λ x. open_same_by entries new x ids (any_more (ends x) entries (Sealed id) ∙ or_false _)) in
+    ap length (ap₂ filter opens ids)
+
+dropped_closed : (entries : List Entry) (id : ℕ) → is_open (entries ++ Dropped id ∷ []) id ≡ false
+unfolding is_open
+dropped_closed entries id = and_not (list_any (λ other. eqb other id)
+    (opened_ids (entries ++ Dropped id ∷ []))) _ (any_more (ends id) entries (Dropped id) ∙ or_true _ _
+    (eq-eqb id id refl))
+
+pub dropped_ends : (entries : List Entry) (id : ℕ) → IsOrderly entries → is_loading entries id ≡ true
+    → Ends entries (entries ++ Dropped id ∷ []) id
+unfolding is_loading
+dropped_ends entries id orderly loading =
+    let new = entries ++ Dropped id ∷ [] in
+    ends_by entries new id orderly loading
+    (ap (λ b. b && not (list_any (seals id) new)) (dropped_closed entries id))
+    (opened_more entries (Dropped id) ∙ append-nil _) (others_agree entries (Dropped id))
+
+pub dropped_opens : (entries : List Entry) (id : ℕ) → IsOrderly entries → is_loading entries id ≡ true
+    → length (open_ids entries) ≡ length (open_ids (entries ++ Dropped id ∷ [])) + 1
+unfolding open_ids
+dropped_opens entries id orderly loading =
+    let new = entries ++ Dropped id ∷ [] in
+    let on = loading_open entries id loading in
+    let ids : opened_ids new ≡ opened_ids entries = opened_more entries (Dropped id) ∙ append-nil _ in
+    let agree = others_agree entries (Dropped id) in
+    let within = open_within entries id orderly on in
+    let parts : Around (is_open entries) (is_open new) id (opened_ids entries) =
+    rw orderly.ids (filters_around (is_open entries) (is_open new) id (length (opened_ids entries))
+    agree.opens within.0 within.1) in
+    let was : filter (is_open entries) (opened_ids entries) ≡ parts.front ++ id ∷ []
+    ++ parts.back = parts.old ∙ ap (λ b. parts.front ++ cond b (id ∷ []) [] ++ parts.back) on in
+    let is : filter (is_open new) (opened_ids new) ≡ parts.front ++ []
+    ++ parts.back = ap (filter (is_open new)) ids ∙ parts.new ∙ ap
+    (λ b. parts.front ++ cond b (id ∷ []) [] ++ parts.back) (dropped_closed entries id) in
+    omega (
+      arith,
+      ap length was,
+      ap length is,
+      length-append (parts.front ++ id ∷ []) parts.back,
+      length-append parts.front (id ∷ []),
+      length-append (parts.front ++ []) parts.back,
+      length-append {A = ℕ} parts.front [],
+    )
+
+-- One trace is opened, and a pass over its tracks is added.
+pub record Opens (old new : List Entry) (id : ℕ) (info : TraceInfo) : Type 0 where
+  pub told : info_of new id ≡ Some info
+  pub count : published_count new id ≡ 0
+  pub passes : Adds (passes_of old) (passes_of new) (pass_of new id)
+  pub promises : promised new ≡ promised old + length info.names.tracks + 1
+  pub opens : length (open_ids new) ≡ length (open_ids old) + 1
+  pub ids : opened_ids new ≡ opened_ids old ++ id ∷ []
+
+opened_on : (entries : List Entry) (id : ℕ) (info : TraceInfo) → IsOrderly entries
+    → length (opened_ids entries) < id → is_open (entries ++ Opened id info ∷ []) id ≡ true
+unfolding is_open
+opened_on entries id info orderly above =
+    let new = entries ++ Opened id info ∷ [] in
+    let among : list_any (λ other. eqb other id) (opened_ids new) ≡ true =
+    ap (list_any (λ other. eqb other id)) (opened_more entries (Opened id info)) ∙ list_any-append
+    (λ other. eqb other id) (opened_ids entries) (id ∷ []) ∙ or_true _ _
+    (ap (λ b. b || false) (eq-eqb id id refl)) in
+    let on : list_any (ends id) new ≡ false = any_more (ends id) entries (Opened id info) ∙ ap
+    (λ b. b || false) (orderly.unborn id above).ended in
+    ap₂ (λ a b. a && not b) among on
+
+opened_loads : (entries : List Entry) (id : ℕ) (info : TraceInfo) → IsOrderly entries
+    → length (opened_ids entries) < id → is_loading (entries ++ Opened id info ∷ []) id ≡ true
+unfolding is_loading
+opened_loads entries id info orderly above =
+    let new = entries ++ Opened id info ∷ [] in
+    let unsealed : list_any (seals id) new ≡ false = any_more (seals id) entries (Opened id info) ∙ ap
+    (λ b. b || false) (orderly.unborn id above).sealed in
+    ap₂ (λ a b. a && not b) (opened_on entries id info orderly above) unsealed
+
+unborn_info : (o : Option TraceInfo) (info : TraceInfo) → is_some o ≡ false
+    → option_or o (Some info) ≡ Some info
+unborn_info None info e = refl
+unborn_info (Some other) info e = absurd cc
+
+unborn_count : (o : Option TraceInfo) (n : ℕ) → is_some o ≡ false
+    → n ≤ option_map_or (λ (info : TraceInfo). length info.names.tracks) o 0 → n ≡ 0
+unborn_count None n e le = omega arith
+unborn_count (Some other) n e le = absurd cc
+
+pub opened_opens : (entries : List Entry) (id : ℕ) (info : TraceInfo) → IsOrderly entries
+    → id ≡ length (opened_ids entries) + 1 → Opens entries (entries ++ Opened id info ∷ []) id info
+unfolding promised open_ids
+opened_opens entries id info orderly next =
+    let new = entries ++ Opened id info ∷ [] in
+    let above : length (opened_ids entries) < id = omega arith in
+    let ids : opened_ids new ≡ opened_ids entries ++ id ∷ [] = opened_more entries (Opened id info) in
+    let agree = others_agree entries (Opened id info) in
+    let lacks : Lacks id (opened_ids entries) =
+    rw orderly.ids (range_below 1 (length (opened_ids entries)) id (omega arith)) in
+    let is : loading_ids new ≡ loading_ids entries ++ id
+    ∷ [] = ap (filter (is_loading new)) ids ∙ filter-append (is_loading new) (opened_ids entries)
+    (id ∷ []) ∙ ap₂ (λ xs b. xs ++ cond b (id ∷ []) [])
+    (filter_same _ _ id (opened_ids entries) agree.loads lacks)
+    (opened_loads entries id info orderly above) in
+    let on : filter (is_open new) (opened_ids new) ≡ filter (is_open entries) (opened_ids entries) ++ id
+    ∷ [] = ap (filter (is_open new)) ids ∙ filter-append (is_open new) (opened_ids entries) (id ∷ []) ∙
+    ap₂ (λ xs b. xs ++ cond b (id ∷ []) []) (filter_same _ _ id (opened_ids entries) agree.opens lacks)
+    (opened_on entries id info orderly above) in
+    let unborn = orderly.unborn id above in
+    let told : info_of new id ≡ Some info = info_more entries (Opened id info) id ∙ ap
+    (λ b. option_or (info_of entries id) (cond b (Some info) None)) (eq-eqb id id refl) ∙ unborn_info
+    (info_of entries id) info unborn.info in
+    let none : published_count entries id ≡ 0 = unborn_count (info_of entries id) _ unborn.info
+    (orderly.counted id) in
+    let count : published_count new id ≡ 0 = count_more entries (Opened id info) id ∙ omega arith in
+    let loaders = Lacks-filter (is_loading entries) id (opened_ids entries) lacks in
+    let tracks : tracks_of new id ≡ length info.names.tracks =
+    ap (λ o. option_map_or (λ (i : TraceInfo). length i.names.tracks) o 0) told in
+    record {
+      told = told;
+      count = count;
+      passes = ap (map (pass_of new)) is ∙ map-append (pass_of new) (loading_ids entries) (id ∷ []) ∙ ap
+          (λ xs. xs ++ pass_of new id ∷ []) (map_same _ _ id (loading_ids entries) agree.passes loaders);
+      promises =
+          let sum_is : promised new ≡ sum_by (promise_of new) (loading_ids entries)
+          + sum_by (promise_of new) (id ∷ []) = ap (sum_by (promise_of new)) is ∙ sum_by-append
+          (promise_of new) (loading_ids entries) (id ∷ []) in
+          let sum_was : sum_by (promise_of new) (loading_ids entries) ≡ promised entries =
+          sum_same _ _ id (loading_ids entries) agree.promises loaders in
+          let this : promise_of new id ≡ length info.names.tracks + 1 = rw (tracks, count) (omega arith) in
+          omega arith;
+      opens = ap length on ∙ length-append (filter (is_open entries) (opened_ids entries)) (id ∷ []);
+      ids = ids;
+    }
+
+-- a pass of the seat is that of a loading trace
+pub has_loading : (entries : List Entry) (view : PassView) → Contains (passes_of entries) view
+    → (is_loading entries view.id ≡ true) × (pass_of entries view.id ≡ view)
+has_loading entries view has =
+    let ids = loading_ids entries in
+    let id = get_or ids has.0 0 in
+    let lt : has.0 < length ids = omega (arith, has.1, length-map ids (pass_of entries)) in
+    let at : pass_of entries id ≡ view = sym (get_or-map (pass_of entries) ids has.0 0 view lt) ∙ has.2 in
+    let same : id ≡ view.id = ap (λ (pass : PassView). pass.id) at in
+    let loads : is_loading entries id ≡ true = filter_passes (is_loading entries) (opened_ids entries) has.0 0
+    lt in
+    (ap (is_loading entries) (sym same) ∙ loads, ap (pass_of entries) (sym same) ∙ at)

@@ -1,0 +1,120 @@
+-- What the tests need of their small traces and of a load that is alone.
+use Rattle.std.proofs.Common.{◌≡◌, ℕ, ◌+◌, ◌≤◌, List, [], ◌∷◌, ◌++◌, length, get_or, take, Some, refl, sym}
+use Rattle.std.proofs.Common.{ap}
+use Rattle.std.proofs.Common.{◌∙◌, arith, suc, zero, subst, length-append, Contains, lit≤}
+use Rattle.std.specs.Prelude.{slice_get}
+use Rattle.std.specs.List.Sorted.{IsNonDecreasing}
+use Rattle.std.specs.Option.{option_map_or}
+use Rattle.std.proofs.lemmas.List.{nil_from_length}
+use Rattle.std.proofs.Math.Seq.{get_or-append_seam}
+use Rattle.trace_base.specs.Info.{Fits}
+use Rattle.trace_base.specs.Stream.{IsLegal, stack_after}
+use Rattle.trace_base.specs.declared.names.TraceInfo.{TraceInfo}
+use Rattle.trace_base.specs.declared.stream.Event.{Event}
+use Rattle.trace_base.specs.declared.stream.TrackStream.{TrackStream}
+use Rattle.hall_trait.specs.History.{Entry, Published, info_of, tracks_of}
+use Rattle.hall_trait.specs.Seat.{Adds, Becomes, Removes, Replaces}
+use Rattle.hall_trait.proofs.More.{info_more, or_none}
+
+-- a track on which nothing happens
+abbrev pub quiet : TrackStream
+quiet = record { start = 0; end = 10; events = [] }
+
+quiet_order : IsNonDecreasing (0 ∷ 10 ∷ [])
+quiet_order zero zero d le lt = lit≤ tt
+quiet_order zero (suc zero) d le lt = lit≤ tt
+quiet_order zero (suc (suc j)) d le lt = absurd (omega arith)
+quiet_order (suc i) zero d le lt = absurd (omega arith)
+quiet_order (suc zero) (suc zero) d le lt = lit≤ tt
+quiet_order (suc (suc i)) (suc zero) d le lt = absurd (omega arith)
+quiet_order (suc i) (suc (suc j)) d le lt = absurd (omega arith)
+
+take_none : (i : ℕ) → take {A = Event} i [] ≡ []
+take_none zero = refl
+take_none (suc i) = refl
+
+quiet_legal : IsLegal quiet
+unfolding stack_after
+quiet_legal = record {
+  in_time = lit≤ tt;
+  in_order = quiet_order;
+  closes_open = λ i t at. absurd cc;
+  all_closed = refl;
+  depth = λ i. subst (λ (es : List Event). length (stack_after es) ≤ 256) (sym (take_none i)) (lit≤ tt);
+  calls = lit≤ tt;
+  functions = λ i f t at. absurd cc;
+}
+
+pub quiet_fits : (info : TraceInfo) (s : TrackStream) (name : List ℕ) → s ≡ quiet
+    → info.names.tracks ≡ record { container = 0; kind = 0 } ∷ []
+    → info.names.containers ≡ record { name = name; start = 0; end = 10 } ∷ [] → Fits s info 0
+quiet_fits info s name same tracks containers = subst (λ (s : TrackStream). Fits s info 0) (sym same)
+    (record {
+      legal = quiet_legal;
+      interval = (
+        record { container = 0; kind = 0 },
+        record { name = name; start = 0; end = 10 },
+        ap (λ xs. slice_get xs 0) tracks,
+        ap (λ xs. slice_get xs 0) containers,
+        (refl, refl),
+      );
+      numbered = λ i f t at. absurd cc;
+    })
+
+-- an added pass is there, and one in place of another
+pub adds_has : {X : Type 0} (old new : List X) (x : X) → Adds old new x → Contains new x
+adds_has old new x adds = (
+  length old,
+  omega (arith, ap length adds, length-append old (x ∷ [])),
+  ap (λ xs. get_or xs (length old) x) adds ∙ get_or-append_seam old x [] x,
+)
+
+pub replaces_has : {X : Type 0} (old new : List X) (x y : X) → Replaces old new x y → Contains new y
+replaces_has old new x y r = (
+  length r.front,
+  omega (arith, ap length r.now, length-append r.front (y ∷ r.back)),
+  ap (λ xs. get_or xs (length r.front) y) r.now ∙ get_or-append_seam r.front y r.back y,
+)
+
+-- what is there in the stead of an item, with the others
+stead_length : {X : Type 0} (old new : List X) (x : X) (stead : List X) → Becomes old new x stead
+    → length new + 1 ≡ length old + length stead
+stead_length old new x stead r = omega (
+  arith,
+  ap length r.was,
+  ap length r.now,
+  length-append r.front (x ∷ r.back),
+  length-append r.front (stead ++ r.back),
+  length-append stead r.back,
+)
+
+-- an only pass that is gone leaves none
+pub none_left : {X : Type 0} (none one now rest : List X) (x y : X) → none ≡ [] → Adds none one x
+    → Replaces one now x y → Removes now rest y → rest ≡ []
+none_left none one now rest x y empty adds replaces removes =
+    nil_from_length rest (omega (
+      arith,
+      ap length empty,
+      ap length adds,
+      length-append none (x ∷ []),
+      stead_length one now x (y ∷ []) replaces,
+      stead_length now rest y [] removes,
+    ))
+
+pub none_left_at_once : {X : Type 0} (none one rest : List X) (x : X) → none ≡ [] → Adds none one x
+    → Removes one rest x → rest ≡ []
+none_left_at_once none one rest x empty adds removes =
+    nil_from_length rest (omega (
+      arith,
+      ap length empty,
+      ap length adds,
+      length-append none (x ∷ []),
+      stead_length one rest x [] removes,
+    ))
+
+-- a publication leaves the number of tracks
+pub tracks_stay : (old new : List Entry) (id track : ℕ) (s : TrackStream) (info : TraceInfo) → new ≡ old
+    ++ Published id track s ∷ [] → info_of old id ≡ Some info → tracks_of new id ≡ length info.names.tracks
+tracks_stay old new id track s info seen told =
+    ap (λ o. option_map_or (λ (i : TraceInfo). length i.names.tracks) o 0)
+    (ap (λ es. info_of es id) seen ∙ info_more old (Published id track s) id ∙ or_none _ ∙ told)

@@ -1,0 +1,42 @@
+-- How a plain hall keeps its history: a run of questions is kept as its length.
+use Rattle.std.specs.Prelude.{◌≡◌, ℕ, ◌+◌, ◌≤◌, List, [], ◌∷◌, ◌++◌, length, replicate}
+use Rattle.std.specs.List.{flat_map}
+use Rattle.std.specs.Arc.{arc_value}
+use Rattle.std.proofs.Props.{props}
+use Rattle.trace_base.specs.declared.limits.TheConstants.{MAX_OPEN_TRACES, MAX_PLACES}
+use Rattle.hall_trait.specs.History.{Entry, Opened, Published, Sealed, Dropped, Asked, IsLegalHistory}
+use Rattle.hall_trait.specs.History.{opened_ids, open_ids, promised}
+use Rattle.hall_trait.specs.HistoryProps.{IsLegalHistory-prop}
+use Rattle.plain_hall.specs.Orderly.{IsOrderly}
+use Rattle.plain_hall.specs.declared.kept_entry.HistoryEntry.{HistoryEntry}
+use Rattle.plain_hall.specs.declared.kept_entry.HistoryEntry.TheVariants as kept
+use Rattle.plain_hall.specs.declared.kept_entry.KeptEntry.{KeptEntry}
+
+-- the entry that is kept
+abbrev pub entry_of : HistoryEntry → Entry
+entry_of (kept.Opened id info) = Opened id (arc_value info)
+entry_of (kept.Published id track stream) = Published id track stream
+entry_of (kept.Sealed id) = Sealed id
+entry_of (kept.Dropped id) = Dropped id
+
+-- the questions before it, and the entry
+abbrev pub block_of : KeptEntry → List Entry
+block_of kept = replicate kept.asked Asked ++ entry_of kept.entry ∷ []
+
+-- the history that is kept, with so many questions at its end
+abbrev pub entries_of : List KeptEntry → ℕ → List Entry
+entries_of kept asked = flat_map block_of kept ++ replicate asked Asked
+
+-- A legal history with these numbers: of the places that are promised, the traces that were opened, and those
+-- that are.
+pub record IsKept (entries : List Entry) (owed opened live : ℕ) : Type 0 where
+  pub legal : IsLegalHistory entries
+  pub orderly : IsOrderly entries
+  pub promises : owed ≡ promised entries
+  pub given : opened ≡ length (opened_ids entries)
+  pub held : live ≡ length (open_ids entries)
+  pub few : live ≤ MAX_OPEN_TRACES
+  pub fits : length entries + owed ≤ MAX_PLACES
+
+pub IsKept-prop : (entries : List Entry) (owed opened live : ℕ) → IsProp (IsKept entries owed opened live)
+IsKept-prop entries owed opened live = hlevel (props, IsLegalHistory-prop)
