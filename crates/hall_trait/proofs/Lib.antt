@@ -1,1 +1,3 @@
+pub mod HistoryProps
+pub mod Legal
 pub mod More

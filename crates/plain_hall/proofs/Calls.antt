@@ -34,9 +34,9 @@ pub record IsPassOf (entries : List Entry) (pass : LoadPass) : Type 0 where
   pub state : state_at (published_count entries pass.id) (tracks_of entries pass.id) ≡ pass.state
   pub counted : published_count entries pass.id ≤ tracks_of entries pass.id
 
-pub pass_facts : (entries : List Entry) (owed opened live : ℕ) (pass : LoadPass)
-    → IsKept entries owed opened live → Contains (passes_of entries) (pass_view pass) → IsPassOf entries pass
-pass_facts entries owed opened live pass kept has =
+pub pass_facts : (entries : List Entry) (owed live : ℕ) (pass : LoadPass)
+    → IsKept entries owed live → Contains (passes_of entries) (pass_view pass) → IsPassOf entries pass
+pass_facts entries owed live pass kept has =
     let facts = has_loading entries (pass_view pass) has in
     record {
       loading = facts.0;
@@ -85,20 +85,20 @@ left_is_rest entries pass facts = ap₂ left_in (sym facts.state) (sym facts.to)
 same_view : (p q : PassView) → p.id ≡ q.id → p.from ≡ q.from → p.to ≡ q.to → p.state ≡ q.state → p ≡ q
 same_view p q id from to state = λ i. record { id = id i; from = from i; to = to i; state = state i }
 
-pub opened_answer : (old new : List Entry) (owed opened live : ℕ) (pins : List PinView) (pass : LoadPass)
-    (info : TraceInfo) → new ≡ old ++ Opened pass.id info ∷ [] → pass.id ≡ opened + 1
+pub opened_answer : (old new : List Entry) (owed live : ℕ) (pins : List PinView) (pass : LoadPass)
+    (info : TraceInfo) → new ≡ old ++ Opened pass.id info ∷ [] → pass.id ≡ length (opened_ids old) + 1
     → pass.place ≡ length new → IsFresh pass (length info.names.tracks) → HasRoom old (places_of_load info)
-    → IsKept old owed opened live → Admits true (plain_seat old pins) (plain_seat new pins) info (Ok pass)
-opened_answer old new owed opened live pins pass info seen next last fresh room kept =
+    → IsKept old owed live → Admits true (plain_seat old pins) (plain_seat new pins) info (Ok pass)
+opened_answer old new owed live pins pass info seen next last fresh room kept =
     let more : Opens old new pass.id info = subst (λ (es : List Entry). Opens old es pass.id info) (sym seen)
-    (opened_opens old pass.id info kept.orderly (omega (arith, kept.given))) in
+    (opened_opens old pass.id info kept.orderly next) in
     let tracks : tracks_of new pass.id ≡ length info.names.tracks =
     ap (λ o. option_map_or (λ (i : TraceInfo). length i.names.tracks) o 0) more.told in
     let view : pass_of new pass.id ≡ pass_view pass = same_view _ _ refl (sym fresh.from)
     (tracks ∙ sym fresh.to) (ap₂ state_at more.count tracks ∙ sym fresh.state) in
     record {
       entered = makes old new pins pins (Opened pass.id info) pass.place seen last;
-      next = omega (arith, kept.given, ap length more.ids, length-append (opened_ids old) (pass.id ∷ []));
+      next = omega (arith, next, ap length more.ids, length-append (opened_ids old) (pass.id ∷ []));
       opened = more.told;
       fresh = fresh;
       passes = more.passes ∙ ap (λ p. passes_of old ++ p ∷ []) view;

@@ -1,5 +1,5 @@
 -- What a history tells of a trace was in one of its entries, and stays.
-use Rattle.std.proofs.Common.{◌≡◌, ℕ, Bool, true, false, ◌||◌, ◌&&◌, not, cond, eqb, List, [], ◌∷◌, ◌++◌}
+use Rattle.std.proofs.Common.{◌≡◌, ℕ, ◌≤◌, Bool, true, false, ◌||◌, ◌&&◌, not, cond, eqb, List, [], ◌∷◌, ◌++◌}
 use Rattle.std.proofs.Common.{length, take, drop, Option, None, Some, refl, sym, ap, ◌∙◌, arith, suc}
 use Rattle.std.proofs.Common.{length-append, Contains, get_or, map, subst, Bor}
 use Rattle.std.specs.Prelude.{slice_get, is_some, IsSome, IfSome}
@@ -11,15 +11,20 @@ use Rattle.trace_base.specs.declared.names.TraceInfo.{TraceInfo}
 use Rattle.trace_base.specs.declared.stream.TrackStream.{TrackStream}
 use Rattle.hall_trait.specs.History.{Entry, Opened, Published, Sealed, Dropped, Closed, Asked, opened_id}
 use Rattle.hall_trait.specs.History.{info_opened, stream_published, ends, opened_ids, info_of, stream_of}
-use Rattle.hall_trait.specs.History.{is_open, FitsTrack, MayFollow, IsLegalHistory}
+use Rattle.hall_trait.specs.History.{is_open, published_count, FitsTrack, MayFollow, IsLegalHistory}
 use Rattle.hall_trait.specs.Pin.{first_id, second_id, id_at}
 use Rattle.plain_hall.specs.PlainSeat.{IsHeld, kept_view}
 use Rattle.hall_trait.specs.Seat.{PinView}
 use Rattle.plain_hall.specs.declared.kept_pin.KeptPin.{KeptPin}
 use Rattle.std.proofs.lemmas.Bool.{eqb-true}
-use Rattle.plain_hall.proofs.Legal.{and_left, and_right}
-use Rattle.plain_hall.proofs.Blocks.{first}
+use Rattle.std.proofs.lemmas.Bool.Decides.{nat_tests}
+use Rattle.plain_hall.specs.Orderly.{IsOrderly}
+use Rattle.plain_hall.proofs.Legal.{and_left, and_right, in_range}
 use Rattle.hall_trait.proofs.More.{first-append}
+
+-- the first value that h gives
+abbrev pub first : {X Y : Type 0} → (X → Option Y) → List X → Option Y
+first h xs = slice_get (filter_map h xs) 0
 
 -- the value is that of an item
 abbrev IsGivenBy : {X Y : Type 0} → (X → Option Y) → List X → Y → Type 0
@@ -64,15 +69,36 @@ info_legal entries id info legal at =
     opened_legal (take where_from.0 entries) where_from.1 id info where_from.3
     (legal where_from.0 where_from.1 where_from.2)
 
-some_stays : {X : Type 0} (o p : Option X) (x : X) → o ≡ Some x → option_or o p ≡ Some x
+pub some_stays : {X : Type 0} (o p : Option X) (x : X) → o ≡ Some x → option_or o p ≡ Some x
 some_stays o p x e = ap (λ o. option_or o p) e
+
+-- the first value of some entries is that of all
+first_stays : {Y : Type 0} (h : Entry → Option Y) (entries : List Entry) (n : ℕ) (y : Y)
+    → first h (take n entries) ≡ Some y → first h entries ≡ Some y
+first_stays h entries n y at = ap (first h) (sym (take-append-drop n entries)) ∙ first-append h
+    (take n entries) (drop n entries) ∙ some_stays (first h (take n entries)) _ y at
 
 pub info_stays : (entries : List Entry) (n id : ℕ) (info : TraceInfo)
     → info_of (take n entries) id ≡ Some info → info_of entries id ≡ Some info
 unfolding info_of
-info_stays entries n id info at = ap (first (info_opened id)) (sym (take-append-drop n entries)) ∙
-    first-append (info_opened id) (take n entries) (drop n entries) ∙ some_stays
-    (first (info_opened id) (take n entries)) _ info at
+info_stays entries n id info at = first_stays (info_opened id) entries n info at
+
+pub stream_stays : (entries : List Entry) (n id track : ℕ) (s : TrackStream)
+    → stream_of (take n entries) id track ≡ Some s → stream_of entries id track ≡ Some s
+unfolding stream_of
+stream_stays entries n id track s at = first_stays (stream_published id track) entries n s at
+
+-- what isn't told by all isn't told by the first of them
+pub none_before : (entries : List Entry) (n id track : ℕ) → stream_of entries id track ≡ None
+    → stream_of (take n entries) id track ≡ None
+none_before entries n id track none = go (stream_of (take n entries) id track) refl
+  where
+    differ : (s : TrackStream) → ◌≡◌ {A = Option TrackStream} None (Some s) → ⊥
+    differ s e = cc
+
+    go : (o : Option TrackStream) → stream_of (take n entries) id track ≡ o → o ≡ None
+    go None e = refl
+    go (Some s) e = absurd (differ s (sym none ∙ stream_stays entries n id track s e))
 
 -- what was told at a place is told later
 pub same_info : (entries : List Entry) (n id : ℕ) → IsSome (info_of (take n entries) id)
@@ -129,8 +155,44 @@ pub open_by : (entries : List Entry) (id : ℕ)
 unfolding is_open opened_ids info_of
 open_by entries id = ap (λ b. b && not (list_any (ends id) entries)) (among-told entries id)
 
+-- a track that isn't published has no stream
+pub not_published : (entries : List Entry) (id track : ℕ) → IsOrderly entries
+    → published_count entries id ≤ track
+    → stream_of entries id track ≡ None
+not_published entries id track orderly past =
+    let off : is_some (stream_of entries id track) ≡ false = orderly.in_order id track ∙ grind
+    (arith, nat_tests) in
+    elim (stream_of entries id track) as (λ o. is_some o ≡ false → o ≡ None)
+    [ None ↦ λ e. refl | Some s ↦ λ e. absurd cc ] off
+
+-- a trace of which something is told has an id that was given
+pub told_within : (entries : List Entry) (id : ℕ) → IsOrderly entries → IsSome (info_of entries id)
+    → (1 ≤ id) × (id ≤ length (opened_ids entries))
+unfolding opened_ids info_of
+told_within entries id orderly told =
+    let among : list_any (λ other. eqb other id) (opened_ids entries) ≡ true = among-told entries id ∙ told in
+    let within = in_range 1 (length (opened_ids entries)) id
+    (sym (ap (list_any (λ other. eqb other id)) orderly.ids) ∙ among) in
+    (within.0, omega arith)
+
 pub open_told : (entries : List Entry) (id : ℕ) → is_open entries id ≡ true → IsSome (info_of entries id)
 open_told entries id on = and_left _ _ (sym (open_by entries id) ∙ on)
+
+-- what an open trace was opened with is told, and of one that isn't open nothing
+pub open_some : {X : Type 0} (b : Bool) (o : Option X) (x : X) → cond b o None ≡ Some x → (b ≡ true)
+    × (o ≡ Some x)
+open_some true o x e = (refl, e)
+open_some false o x e = absurd cc
+
+pub open_none : (entries : List Entry) (id : ℕ) → cond (is_open entries id) (info_of entries id) None ≡ None
+    → is_open entries id ≡ false
+open_none entries id none = go (is_open entries id) refl
+  where
+    go : (b : Bool) → is_open entries id ≡ b → b ≡ false
+    go false e = refl
+    go true e =
+        let nothing : info_of entries id ≡ None = sym (ap (λ b. cond b (info_of entries id) None) e) ∙ none in
+        sym (open_told entries id e) ∙ ap is_some nothing
 
 -- a pin is held on
 pub held_more : (old new : List Entry) (e : Entry) (pin : Option KeptPin) → new ≡ old ++ e ∷ []

@@ -1,76 +1,22 @@
 -- A legal and orderly history stays so with an entry that may follow.
-use Rattle.std.proofs.Common.{◌≡◌, ℕ, ◌+◌, ◌<◌, ◌≤◌, ◌⊎◌, inl, inr, Bool, true, false, ◌||◌, ◌&&◌, cond, eqb}
+use Rattle.std.proofs.Common.{◌≡◌, ℕ, ◌+◌, ◌<◌, ◌≤◌, inl, inr, Bool, true, false, ◌||◌, ◌&&◌, cond, eqb}
 use Rattle.std.proofs.Common.{ltb, List, [], ◌∷◌, ◌++◌, length, Option, None, Some, refl, sym, ap, ◌∙◌, subst}
-use Rattle.std.proofs.Common.{arith, length-append, take, suc, zero, length-take}
-use Rattle.std.specs.Prelude.{slice_get, is_some}
+use Rattle.std.proofs.Common.{arith, length-append, suc, zero}
+use Rattle.std.specs.Prelude.{is_some}
 use Rattle.std.specs.List.{list_any, range_with_len}
 use Rattle.std.specs.Option.{option_or, option_to_list, option_map_or}
-use Rattle.std.proofs.lemmas.List.{take-append-le, append-nil, take-take}
-use Rattle.std.proofs.Math.Seq.{take-append_seam}
-use Rattle.std.proofs.lemmas.Option.{slice_get_within}
+use Rattle.std.proofs.lemmas.List.{append-nil}
 use Rattle.std.proofs.lemmas.Bool.{eq-eqb}
 use Rattle.std.proofs.lemmas.Bool.Decides.{eqb_tells, nat_tests}
 use Rattle.trace_base.specs.declared.names.TraceInfo.{TraceInfo}
 use Rattle.trace_base.specs.declared.stream.TrackStream.{TrackStream}
 use Rattle.hall_trait.specs.History.{Entry, Opened, Published, Sealed, Dropped, Closed, Asked, opened_id}
 use Rattle.hall_trait.specs.History.{opened_ids, info_of, stream_of, is_open, is_loading, tracks_of}
-use Rattle.hall_trait.specs.History.{published_count, MayFollow, IsLegalHistory}
+use Rattle.hall_trait.specs.History.{published_count, MayFollow}
 use Rattle.plain_hall.specs.Orderly.{IsOrderly, IsUnborn}
 use Rattle.hall_trait.proofs.More.{SameData, subject, opened_more, info_more, stream_more, count_more}
 use Rattle.hall_trait.proofs.More.{data_of_others, fate_of_others, data_sealed, data_dropped, data_closed}
 use Rattle.hall_trait.proofs.More.{data_asked, tracks_same, or_none}
-
-slice_get-append_left : {X : Type 0} (xs ys : List X) (k : ℕ) → k < length xs
-    → slice_get (xs ++ ys) k ≡ slice_get xs k
-slice_get-append_left [] ys k lt = absurd (omega arith)
-slice_get-append_left (x ∷ xs) ys zero lt = refl
-slice_get-append_left (x ∷ xs) ys (suc k) lt = slice_get-append_left xs ys k (omega arith)
-
-slice_get_seam : {X : Type 0} (xs : List X) (y : X) → slice_get (xs ++ y ∷ []) (length xs) ≡ Some y
-slice_get_seam [] y = refl
-slice_get_seam (x ∷ xs) y = slice_get_seam xs y
-
-pub less_or_more : (a b : ℕ) → (a < b) ⊎ (b ≤ a)
-less_or_more a b = grind arith
-
-some_same : {X : Type 0} (x y : X) → ◌≡◌ {A = Option X} (Some x) (Some y) → x ≡ y
-some_same x y e = cc
-
-pub legal_more : (entries : List Entry) (e : Entry) → IsLegalHistory entries → MayFollow entries e
-    → IsLegalHistory (entries ++ e ∷ [])
-legal_more entries e legal may k x found =
-    elim (less_or_more k (length entries)) [
-      | inl lt ↦
-          let same : take k (entries ++ e ∷ []) ≡ take k entries = take-append-le k entries (e ∷ [])
-          (omega arith) in
-          subst (λ (before : List Entry). MayFollow before x) (sym same)
-          (legal k x (sym (slice_get-append_left entries (e ∷ []) k lt) ∙ found))
-      | inr le ↦
-          let within : k < length (entries ++ e ∷ []) = slice_get_within _ k x found in
-          let last : k ≡ length entries = omega (arith, length-append entries (e ∷ [])) in
-          let same : take k (entries ++ e ∷ []) ≡ entries = ap (λ n. take n (entries ++ e ∷ [])) last ∙
-          take-append_seam entries (e ∷ []) in
-          let this : e ≡ x = some_same e x
-          (sym (slice_get_seam entries e) ∙ ap (slice_get (entries ++ e ∷ [])) (sym last) ∙ found) in
-          subst (λ (before : List Entry). MayFollow before x) (sym same)
-          (subst (λ (y : Entry). MayFollow entries y) this may)
-    ]
-
-slice_get-take : {X : Type 0} (n : ℕ) (xs : List X) (k : ℕ) → k < n → slice_get (take n xs) k ≡ slice_get xs k
-slice_get-take zero [] k lt = refl
-slice_get-take (suc n) [] k lt = refl
-slice_get-take zero (x ∷ xs) k lt = absurd (omega arith)
-slice_get-take (suc n) (x ∷ xs) zero lt = refl
-slice_get-take (suc n) (x ∷ xs) (suc k) lt = slice_get-take n xs k (omega arith)
-
--- a legal history was legal all along
-pub legal_before : (entries : List Entry) (n : ℕ) → IsLegalHistory entries → IsLegalHistory (take n entries)
-legal_before entries n legal k x found =
-    let within : k < length (take n entries) = slice_get_within _ k x found in
-    let short : k < n = omega (arith, length-take n entries) in
-    let same : take k (take n entries) ≡ take k entries = take-take k n entries (omega arith) in
-    subst (λ (before : List Entry). MayFollow before x) (sym same)
-    (legal k x (sym (slice_get-take n entries k short) ∙ found))
 
 pub range_more : (a n : ℕ) → range_with_len a n ++ (a + n) ∷ [] ≡ range_with_len a (n + 1)
 range_more a zero = let e : a + 0 ≡ a = omega arith in ap (λ x. x ∷ []) e

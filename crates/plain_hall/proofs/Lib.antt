@@ -1,5 +1,5 @@
-pub mod Blocks
 pub mod Calls
+pub mod Finding
 pub mod Found
 pub mod Legal
 pub mod Passes

@@ -200,7 +200,7 @@ ends_by old new id orderly loading ended ids agree =
       ids = ids;
     }
 
-or_true : (a b : Bool) → b ≡ true → (a || b) ≡ true
+pub or_true : (a b : Bool) → b ≡ true → (a || b) ≡ true
 or_true true b e = refl
 or_true false b e = e
 

@@ -1,7 +1,6 @@
 -- What each entry leaves of the facts that a plain hall keeps, and what its seat is then.
-use Rattle.std.proofs.Common.{◌≡◌, ℕ, ◌+◌, ◌-◌, ◌<◌, ◌≤◌, true, false, cond, List, [], ◌∷◌, ◌++◌, length}
+use Rattle.std.proofs.Common.{◌≡◌, ℕ, ◌+◌, ◌-◌, ◌<◌, ◌≤◌, true, cond, List, [], ◌∷◌, ◌++◌, length}
 use Rattle.std.proofs.Common.{Option, None, Some, refl, sym, ap, ◌∙◌, subst, arith, length-append}
-use Rattle.std.specs.Prelude.{is_some}
 use Rattle.std.specs.List.{range_with_len, filter_map, cons_option}
 use Rattle.std.specs.Option.{option_map_or}
 use Rattle.std.proofs.lemmas.List.{append-nil}
@@ -13,12 +12,14 @@ use Rattle.trace_base.specs.declared.names.TraceInfo.{TraceInfo}
 use Rattle.trace_base.specs.declared.stream.TrackStream.{TrackStream}
 use Rattle.hall_trait.specs.Answers.{HasRoom, places_of_load}
 use Rattle.hall_trait.specs.History.{Entry, Opened, Published, Sealed, Dropped, Asked, opened_id, opened_ids}
-use Rattle.hall_trait.specs.History.{open_ids, info_of, stream_of, is_loading, tracks_of, published_count}
+use Rattle.hall_trait.specs.History.{open_ids, info_of, is_loading, tracks_of, published_count}
 use Rattle.hall_trait.specs.History.{promised, FitsTrack, MayFollow}
 use Rattle.plain_hall.specs.Kept.{IsKept}
 use Rattle.plain_hall.specs.PlainSeat.{plain_seat}
 use Rattle.hall_trait.specs.Seat.{PinView, MakesEntry}
-use Rattle.plain_hall.proofs.Legal.{legal_more, orderly_more, orderly_none, range_more}
+use Rattle.plain_hall.proofs.Found.{not_published}
+use Rattle.hall_trait.proofs.Legal.{legal_more}
+use Rattle.plain_hall.proofs.Legal.{orderly_more, orderly_none, range_more}
 use Rattle.hall_trait.proofs.More.{count_more, info_more, or_none}
 use Rattle.plain_hall.proofs.Passes.{promise_of, asked_keeps, published_goes_on, sealed_ends, sealed_opens}
 use Rattle.plain_hall.proofs.Passes.{dropped_ends, dropped_opens, opened_opens}
@@ -39,15 +40,14 @@ makes old new pins now e place seen last =
           (λ p. range_with_len 1 (length old) ++ p ∷ []) (sym next);
     }
 
-pub kept_asked : (old new : List Entry) (owed opened live : ℕ) → new ≡ old ++ Asked ∷ [] → HasRoom old 1
-    → IsKept old owed opened live → IsKept new owed opened live
-kept_asked old new owed opened live seen room was =
+pub kept_asked : (old new : List Entry) (owed live : ℕ) → new ≡ old ++ Asked ∷ [] → HasRoom old 1
+    → IsKept old owed live → IsKept new owed live
+kept_asked old new owed live seen room was =
     let same = asked_keeps old in
-    subst (λ (es : List Entry). IsKept es owed opened live) (sym seen) (record {
+    subst (λ (es : List Entry). IsKept es owed live) (sym seen) (record {
       legal = legal_more old Asked was.legal tt;
       orderly = orderly_more old Asked was.orderly tt tt;
       promises = was.promises ∙ sym same.promises;
-      given = was.given ∙ ap length (sym same.ids);
       held = was.held ∙ sym same.opens;
       few = was.few;
       fits = omega (arith, was.promises, length-append old (Asked ∷ []));
@@ -58,38 +58,34 @@ pub told_tracks : (o : Option TraceInfo) (info : TraceInfo) → o ≡ Some info
     → option_map_or (λ (i : TraceInfo). length i.names.tracks) o 0 ≡ length info.names.tracks
 told_tracks o info e = ap (λ o. option_map_or (λ (i : TraceInfo). length i.names.tracks) o 0) e
 
-pub kept_opened : (old new : List Entry) (owed opened live id : ℕ) (info : TraceInfo) → new ≡ old
-    ++ Opened id info ∷ [] → id ≡ opened + 1 → IsLegalInfo info → live < MAX_OPEN_TRACES
-    → HasRoom old (places_of_load info) → IsKept old owed opened live
-    → IsKept new (owed + (length info.names.tracks + 1)) id (live + 1)
-kept_opened old new owed opened live id info seen next legal few room was =
-    let may : MayFollow old (Opened id info) = (omega (arith, was.given), legal, omega (arith, was.held)) in
+pub kept_opened : (old new : List Entry) (owed live id : ℕ) (info : TraceInfo) → new ≡ old
+    ++ Opened id info ∷ [] → id ≡ length (opened_ids old) + 1 → IsLegalInfo info → live < MAX_OPEN_TRACES
+    → HasRoom old (places_of_load info) → IsKept old owed live
+    → IsKept new (owed + (length info.names.tracks + 1)) (live + 1)
+kept_opened old new owed live id info seen next legal few room was =
+    let may : MayFollow old (Opened id info) = (omega arith, legal, omega (arith, was.held)) in
     let more = opened_opens old id info was.orderly may.0 in
-    subst (λ (es : List Entry). IsKept es (owed + (length info.names.tracks + 1)) id (live + 1)) (sym seen)
+    subst (λ (es : List Entry). IsKept es (owed + (length info.names.tracks + 1)) (live + 1)) (sym seen)
     (record {
       legal = legal_more old (Opened id info) was.legal may;
       orderly = orderly_more old (Opened id info) was.orderly may tt;
       promises = omega (arith, was.promises, more.promises);
-      given = next ∙ omega (arith, was.given, ap length more.ids, length-append (opened_ids old) (id ∷ []));
       held = omega (arith, was.held, more.opens);
       few = omega arith;
       fits = omega (arith, was.promises, length-append old (Opened id info ∷ []));
     })
 
 -- a loading trace is owed its places
-pub owes : (old : List Entry) (owed opened live id : ℕ) → IsKept old owed opened live
+pub owes : (old : List Entry) (owed live id : ℕ) → IsKept old owed live
     → is_loading old id ≡ true → promise_of old id ≤ owed
-owes old owed opened live id was loading =
+owes old owed live id was loading =
     omega (arith, was.promises, (sealed_ends old id was.orderly loading).promises)
 
-pub kept_published : (old new : List Entry) (owed opened live id track : ℕ) (s : TrackStream) → new ≡ old
+pub kept_published : (old new : List Entry) (owed live id track : ℕ) (s : TrackStream) → new ≡ old
     ++ Published id track s ∷ [] → is_loading old id ≡ true → FitsTrack old id track s
-    → track ≡ published_count old id → IsKept old owed opened live → IsKept new (owed - 1) opened live
-kept_published old new owed opened live id track s seen loading fits turn was =
-    let free : is_some (stream_of old id track) ≡ false = was.orderly.in_order id track ∙ grind
-    (arith, nat_tests) in
-    let none : stream_of old id track ≡ None = elim (stream_of old id track) as (λ o. is_some o ≡ false
-    → o ≡ None) [ None ↦ λ e. refl | Some x ↦ λ e. absurd cc ] free in
+    → track ≡ published_count old id → IsKept old owed live → IsKept new (owed - 1) live
+kept_published old new owed live id track s seen loading fits turn was =
+    let none = not_published old id track was.orderly (omega arith) in
     let may : MayFollow old (Published id track s) = (loading, none, fits) in
     let on = published_goes_on old id track s was.orderly loading in
     let added = old ++ Published id track s ∷ [] in
@@ -101,58 +97,53 @@ kept_published old new owed opened live id track s seen loading fits turn was =
     let told : tracks_of old id ≡ length fits.0.names.tracks = told_tracks (info_of old id) fits.0 fits.1 in
     let below : track < length fits.0.names.tracks = fits.2 in
     let fewer : promised old ≡ promised added + 1 = omega (arith, on.promises) in
-    subst (λ (es : List Entry). IsKept es (owed - 1) opened live) (sym seen) (record {
+    subst (λ (es : List Entry). IsKept es (owed - 1) live) (sym seen) (record {
       legal = legal_more old (Published id track s) was.legal may;
       orderly = orderly_more old (Published id track s) was.orderly may turn;
       promises = omega (arith, was.promises);
-      given = was.given ∙ ap length (sym on.ids);
       held = was.held ∙ sym on.opens;
       few = was.few;
       fits = omega (arith, was.promises, was.fits, length-append old (Published id track s ∷ []));
     })
 
-pub kept_sealed : (old new : List Entry) (owed opened live id : ℕ) → new ≡ old ++ Sealed id ∷ []
-    → is_loading old id ≡ true → published_count old id ≡ tracks_of old id → IsKept old owed opened live
-    → IsKept new (owed - 1) opened live
-kept_sealed old new owed opened live id seen loading all was =
+pub kept_sealed : (old new : List Entry) (owed live id : ℕ) → new ≡ old ++ Sealed id ∷ []
+    → is_loading old id ≡ true → published_count old id ≡ tracks_of old id → IsKept old owed live
+    → IsKept new (owed - 1) live
+kept_sealed old new owed live id seen loading all was =
     let may : MayFollow old (Sealed id) =
     (loading, λ track lt. was.orderly.in_order id track ∙ grind (arith, nat_tests)) in
     let ended = sealed_ends old id was.orderly loading in
     let fewer : promised old ≡ promised (old ++ Sealed id ∷ []) + 1 = omega (arith, ended.promises) in
-    subst (λ (es : List Entry). IsKept es (owed - 1) opened live) (sym seen) (record {
+    subst (λ (es : List Entry). IsKept es (owed - 1) live) (sym seen) (record {
       legal = legal_more old (Sealed id) was.legal may;
       orderly = orderly_more old (Sealed id) was.orderly may tt;
       promises = omega (arith, was.promises);
-      given = was.given ∙ ap length (sym ended.ids);
       held = was.held ∙ sym (sealed_opens old id);
       few = was.few;
       fits = omega (arith, was.promises, was.fits, length-append old (Sealed id ∷ []));
     })
 
-pub kept_dropped : (old new : List Entry) (owed opened live id : ℕ) → new ≡ old ++ Dropped id ∷ []
-    → is_loading old id ≡ true → IsKept old owed opened live → IsKept new (owed - promise_of old id) opened
-    (live - 1)
-kept_dropped old new owed opened live id seen loading was =
+pub kept_dropped : (old new : List Entry) (owed live id : ℕ) → new ≡ old ++ Dropped id ∷ []
+    → is_loading old id ≡ true → IsKept old owed live → IsKept new (owed - promise_of old id) (live - 1)
+kept_dropped old new owed live id seen loading was =
     let ended = dropped_ends old id was.orderly loading in
     let fewer : promised old ≡ promised (old ++ Dropped id ∷ []) + promise_of old id = ended.promises in
-    subst (λ (es : List Entry). IsKept es (owed - promise_of old id) opened (live - 1)) (sym seen) (record {
+    subst (λ (es : List Entry). IsKept es (owed - promise_of old id) (live - 1)) (sym seen) (record {
       legal = legal_more old (Dropped id) was.legal loading;
       orderly = orderly_more old (Dropped id) was.orderly loading tt;
       promises = omega (arith, was.promises);
-      given = was.given ∙ ap length (sym ended.ids);
       held = omega (arith, was.held, dropped_opens old id was.orderly loading);
       few = omega (arith, was.few);
       fits = omega (arith, was.promises, was.fits, length-append old (Dropped id ∷ []));
     })
 
 -- nothing is kept of no history
-pub kept_none : (entries : List Entry) → entries ≡ [] → IsKept entries 0 0 0
+pub kept_none : (entries : List Entry) → entries ≡ [] → IsKept entries 0 0
 unfolding promised opened_ids open_ids
-kept_none entries none = subst (λ (es : List Entry). IsKept es 0 0 0) (sym none) (record {
+kept_none entries none = subst (λ (es : List Entry). IsKept es 0 0) (sym none) (record {
   legal = λ k e at. absurd cc;
   orderly = orderly_none;
   promises = refl;
-  given = refl;
   held = refl;
   few = omega arith;
   fits = omega arith;
@@ -164,13 +155,13 @@ length-filter_map h (x ∷ xs) = elim (h x) as (λ o. length (cons_option o (fil
     [ None ↦ omega (arith, length-filter_map h xs) | Some y ↦ omega (arith, length-filter_map h xs) ]
 
 -- no more ids than entries
-pub given_few : (entries : List Entry) (owed opened live : ℕ) → IsKept entries owed opened live
-    → opened ≤ MAX_PLACES
+pub given_few : (entries : List Entry) (owed live : ℕ) → IsKept entries owed live
+    → length (opened_ids entries) ≤ MAX_PLACES
 unfolding opened_ids
-given_few entries owed opened live kept =
-    omega (arith, kept.given, kept.fits, length-filter_map opened_id entries)
+given_few entries owed live kept =
+    omega (arith, kept.fits, length-filter_map opened_id entries)
 
 -- a loading trace is open
-pub lives : (old : List Entry) (owed opened live id : ℕ) → IsKept old owed opened live
+pub lives : (old : List Entry) (owed live id : ℕ) → IsKept old owed live
     → is_loading old id ≡ true → 1 ≤ live
-lives old owed opened live id was loading = omega (arith, was.held, dropped_opens old id was.orderly loading)
+lives old owed live id was loading = omega (arith, was.held, dropped_opens old id was.orderly loading)

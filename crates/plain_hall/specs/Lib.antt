@@ -1,3 +1,4 @@
+pub mod FoundHistory
 pub mod Kept
 pub mod KeptHistory
 pub mod Loading
@@ -5,3 +6,4 @@ pub mod Orderly
 pub mod PlainHall
 pub mod PlainSeat
 pub mod RoomLaw
+pub mod Spots

@@ -1,12 +1,12 @@
 ghost use Rattle.std.specs.Option.{ForSome};
 ghost use Rattle.plain_hall.specs.Kept.{IsKept, IsKept-prop};
-ghost use Rattle.plain_hall.specs.KeptHistory.{history, HasSpace};
+ghost use Rattle.plain_hall.specs.FoundHistory.{entries, HasSpaceFor};
 ghost use Rattle.plain_hall.specs.PlainSeat.{IsHeld};
 
 use crate::asked_for::{first_of, second_of};
-use crate::kept_entry::HistoryEntry;
-use crate::kept_history::KeptHistory;
+use crate::found_history::FoundHistory;
 use crate::kept_pin::KeptPin;
+use crate::spots::TrackSpot;
 use hall_trait::{AskAnswer, Hall, HallFault, LoadPass, Pin};
 use std::alloc::Global;
 use std::sync::{Arc, Wait};
@@ -15,27 +15,27 @@ use trace_base::{
 };
 
 /// A hall of plain lists with one owner. It stores its history, and each entry but a question is kept in
-/// memory that was found when its trace was admitted.
+/// memory that was found when its trace was admitted, as is what finds the trace and its tracks.
 #[derive(Drop)]
 pub struct PlainHall {
-    past: KeptHistory,
+    alloc: Global,
+    past: FoundHistory,
     /// The places that are promised to loading traces.
     owed: u64,
-    /// The traces that were ever opened.
-    opened: u64,
-    /// Those that are open.
+    /// The traces that are open.
     live: u64,
     pin: Option<KeptPin>,
-    ghost kept: { IsKept (history past) owed opened live } by { IsKept-prop (history past) owed opened live },
-    ghost space: { HasSpace past owed },
-    ghost held: { ForSome pin (IsHeld (history past)) },
+    ghost kept: { IsKept (entries past) owed live } by { IsKept-prop (entries past) owed live },
+    ghost space: { HasSpaceFor past owed },
+    ghost held: { ForSome pin (IsHeld (entries past)) },
 }
 
 impl PlainHall {
-    ghost use Rattle.std.specs.Prelude.{◌≡◌, ◌+◌, ◌<◌, [], None, Some, true, if◌then◌else◌, length, map};
+    ghost use Rattle.std.specs.Prelude.{◌≡◌, ◌+◌, ◌<◌, ◌≤◌, [], None, Some, true, if◌then◌else◌, length, map};
     ghost use Rattle.std.specs.Prelude.{IsOkAnd, Ok};
     ghost use Rattle.std.specs.Arc.{arc_value};
     ghost use Rattle.std.specs.Option.{option_to_list};
+    ghost use Rattle.std.specs.Vec.{vec_capacity, vec_len};
     ghost use Rattle.trace_base.specs.Info.{IsLegalInfo};
     ghost use Rattle.trace_base.specs.declared.limits.TheConstants.{MAX_OPEN_TRACES};
     ghost use Rattle.hall_trait.specs.Answers.{Admits, HasRoom, places_of_load, places_taken};
@@ -55,9 +55,9 @@ impl PlainHall {
         }) }
     {
         Ok(PlainHall {
-            past: KeptHistory::new(alloc),
+            alloc,
+            past: FoundHistory::new(alloc),
             owed: 0,
-            opened: 0,
             live: 0,
             pin: None,
         })
@@ -65,49 +65,47 @@ impl PlainHall {
 
     /// The places that are taken or promised.
     fn taken(&self) -> u64
-        ensures { result ≡ places_taken (history self.now.past) }
+        ensures { result ≡ places_taken (entries self.now.past) }
     {
-        self.past.place + self.owed
+        self.past.past.place + self.owed
     }
 
     /// Makes the entry of a question, and answers its place.
     fn note(&mut self) -> u64
-        requires { HasRoom (history self.old.past) 1 }
+        requires { HasRoom (entries self.old.past) 1 }
         ensures entry { MakesEntry true (seat_of self.old) (seat_of self.new) Asked result }
         ensures passes { (seat_of self.new).passes ≡ (seat_of self.old).passes }
         ensures pin { self.new.pin ≡ self.old.pin }
-        ensures opened { self.new.opened ≡ self.old.opened }
         ensures live { self.new.live ≡ self.old.live }
     {
         self.past.push_asked()
     }
 
-    /// Opens a trace for which there is room and space.
-    fn open_trace(&mut self, info: Arc<TraceInfo, Global>) -> LoadPass
+    /// Opens a trace for which there is room and space; the spots of its tracks are kept in `spots`.
+    fn open_trace(&mut self, info: Arc<TraceInfo, Global>, spots: Vec<TrackSpot>) -> LoadPass
         requires legal { IsLegalInfo (arc_value info) }
         requires few { self.old.live < MAX_OPEN_TRACES }
-        requires room { HasRoom (history self.old.past) (places_of_load (arc_value info)) }
-        requires space { HasSpace self.old.past (self.old.owed + length (arc_value info).names.tracks + 2) }
+        requires room { HasRoom (entries self.old.past) (places_of_load (arc_value info)) }
+        requires space { HasSpaceFor self.old.past (self.old.owed + length (arc_value info).names.tracks + 2) }
+        requires spot { vec_len self.old.past.spots < vec_capacity self.old.past.spots }
+        requires none { spots.items ≡ [] }
+        requires tracks { length (arc_value info).names.tracks ≤ vec_capacity spots }
         ensures { Admits true (seat_of self.old) (seat_of self.new) (arc_value info) (Ok result) }
     {
         let tracks = info.names.tracks.len() as u32;
-        let id = self.opened + 1;
-        let place = self.past.push(HistoryEntry::Opened(id, info));
+        let id = self.past.opened() + 1;
+        let place = self.past.push_opened(info, spots);
         self.owed += u64::from(tracks) + 1;
-        self.opened = id;
         self.live += 1;
         LoadPass::new(id, place, tracks)
     }
 
     /// The number of the trace's tracks, if it is open.
     fn tracks(&self, id: u64) -> Option<u32>
-        ensures { result ≡ (if is_open (history self.now.past) id
-            then Some (tracks_of (history self.now.past) id) else None) }
+        ensures { result ≡ (if is_open (entries self.now.past) id
+            then Some (tracks_of (entries self.now.past) id) else None) }
     {
-        if self.past.ended(id) {
-            return None;
-        }
-        match self.past.info(id) {
+        match self.past.open_info(id) {
             Some(info) => Some(info.names.tracks.len() as u32),
             None => None,
         }
@@ -134,18 +132,19 @@ impl Hall for PlainHall {
         _rt: &R,
         info: Arc<TraceInfo, Global>,
     ) -> Result<LoadPass, HallFault> {
-        let tracks = info.names.tracks.len() as u64;
+        let tracks = info.names.tracks.len() as u32;
+        let needed = u64::from(tracks) + 2;
         let taken = self.taken();
-        if taken + tracks + 2 > MAX_PLACES {
+        if taken + needed > MAX_PLACES {
             return Err(HallFault::Spent(taken));
         }
         if self.live >= MAX_OPEN_TRACES {
             return Err(HallFault::Full(self.note()));
         }
-        if self.past.reserve(self.owed + tracks + 2).is_err() {
-            return Err(HallFault::Memory);
+        match self.past.reserve(self.alloc, self.owed + needed, tracks) {
+            Ok(spots) => Ok(self.open_trace(info, spots)),
+            Err(_) => Err(HallFault::Memory),
         }
-        Ok(self.open_trace(info))
     }
 
     fn keep<R: Wait>(
@@ -157,7 +156,7 @@ impl Hall for PlainHall {
         let PassState::Straight(track) = pass.state else {
             unreachable!()
         };
-        let place = self.past.push(HistoryEntry::Published(pass.id, track, s));
+        let place = self.past.push_published(pass.id, track, s);
         self.owed -= 1;
         pass.advance();
         Ok(place)
@@ -171,7 +170,7 @@ impl Hall for PlainHall {
             to: _,
             state: _,
         } = pass;
-        let place = self.past.push(HistoryEntry::Sealed(id));
+        let place = self.past.push_sealed(id);
         self.owed -= 1;
         place
     }
@@ -185,7 +184,7 @@ impl Hall for PlainHall {
             to: _,
             state: _,
         } = pass;
-        let place = self.past.push(HistoryEntry::Dropped(id));
+        let place = self.past.push_dropped(id);
         self.owed -= u64::from(left) + 1;
         self.live -= 1;
         place
@@ -197,7 +196,7 @@ impl Hall for PlainHall {
             return AskAnswer::Spent(taken);
         }
         let place = self.note();
-        let next = self.opened + 1;
+        let next = self.past.opened() + 1;
         let Some(first) = self.tracks(first_of(ids)) else {
             return AskAnswer::Unknown {
                 id: first_of(ids),

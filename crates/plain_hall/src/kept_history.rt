@@ -1,12 +1,12 @@
 ghost use Rattle.std.specs.Prelude.{◌≡◌, length};
 ghost use Rattle.plain_hall.specs.Kept.{entries_of};
 
-use crate::kept_entry::{HistoryEntry, KeptEntry, ends_in, info_in, stream_in};
+use crate::kept_entry::{HistoryEntry, KeptEntry, info_in, stream_in};
 use std::alloc::Global;
 use std::sync::Arc;
 use trace_base::{Memory, TraceInfo, TrackStream};
 
-/// The history of a plain hall. A question takes no memory.
+/// The entries of a plain hall's history. A question takes no memory.
 #[derive(Drop)]
 pub struct KeptHistory {
     pub entries: Vec<KeptEntry>,
@@ -18,19 +18,20 @@ pub struct KeptHistory {
 }
 
 impl KeptHistory {
-    ghost use Rattle.std.specs.Prelude.{◌≡◌, ℕ, ◌+◌, ◌^◌, ◌<◌, ◌≤◌, [], ◌∷◌, ◌++◌, length, take, OnOk};
+    ghost use Rattle.std.specs.Prelude.{◌≡◌, ℕ, ◌+◌, ◌<◌, [], ◌∷◌, ◌++◌, length, OnOk};
     ghost use Rattle.std.specs.Arc.{arc_value};
-    ghost use Rattle.std.specs.List.{list_any};
     ghost use Rattle.std.specs.Option.{option_copied, option_map};
-    ghost use Rattle.std.specs.Vec.{vec_len, vec_capacity};
+    ghost use Rattle.std.specs.Vec.{vec_len};
     ghost use Rattle.trace_base.specs.declared.limits.TheConstants.{MAX_PLACES};
-    ghost use Rattle.hall_trait.specs.History.{Asked, ends, info_of, stream_of};
+    ghost use Rattle.hall_trait.specs.History.{Asked, info_opened, stream_published};
     ghost use Rattle.plain_hall.specs.Kept.{entry_of};
     ghost use Rattle.plain_hall.specs.KeptHistory.{history, HasSpace};
+    ghost use Rattle.plain_hall.specs.Spots.{told_at};
 
     /// The empty history. It takes no memory.
     pub fn new(alloc: Global) -> KeptHistory
-        ensures { history result ≡ [] }
+        ensures seen { history result ≡ [] }
+        ensures kept { result.entries.items ≡ [] }
     {
         KeptHistory {
             entries: Vec::new(alloc),
@@ -39,9 +40,17 @@ impl KeptHistory {
         }
     }
 
+    /// How many entries are kept that aren't questions.
+    pub fn count(&self) -> usize
+        ensures { result ≡ length self.now.entries.items }
+    {
+        self.entries.len()
+    }
+
     /// Makes space for so many more entries. On `Memory` there is no less than before.
     pub fn reserve(&mut self, more: u64) -> Result<(), Memory>
         ensures seen { history self.new ≡ history self.old }
+        ensures kept { self.new.entries.items ≡ self.old.entries.items }
         ensures space { OnOk result (HasSpace self.new more) }
         ensures same { (n : ℕ) → HasSpace self.old n → HasSpace self.new n }
     {
@@ -56,6 +65,10 @@ impl KeptHistory {
         requires space { HasSpace self.old 1 }
         requires fits { length (history self.old) < MAX_PLACES }
         ensures seen { history self.new ≡ history self.old ++ entry_of entry ∷ [] }
+        ensures kept { self.new.entries.items ≡ self.old.entries.items ++ record {
+          asked = self.old.asked;
+          entry = entry;
+        } ∷ [] }
         ensures place { result ≡ length (history self.new) }
         ensures space { (n : ℕ) → HasSpace self.old (n + 1) → HasSpace self.new n }
     {
@@ -70,6 +83,7 @@ impl KeptHistory {
     pub fn push_asked(&mut self) -> u64
         requires { length (history self.old) < MAX_PLACES }
         ensures seen { history self.new ≡ history self.old ++ Asked ∷ [] }
+        ensures kept { self.new.entries.items ≡ self.old.entries.items }
         ensures place { result ≡ length (history self.new) }
         ensures space { (n : ℕ) → HasSpace self.old n → HasSpace self.new n }
     {
@@ -78,44 +92,24 @@ impl KeptHistory {
         self.place
     }
 
-    /// What the trace was opened with.
-    pub fn info(&self, id: u64) -> Option<&Arc<TraceInfo, Global>>
-        ensures { option_map arc_value (option_copied result) ≡ info_of (history self.now) id }
+    /// What the kept entry with this number, counted from 0, opens the trace with.
+    pub fn info_at(&self, at: usize, id: u64) -> Option<&Arc<TraceInfo, Global>>
+        ensures { option_map arc_value (option_copied result) ≡ told_at (info_opened id)
+            self.now.entries.items at }
     {
-        for kept in &self.entries {
-            if let Some(info) = info_in(&kept.entry, id) {
-                return Some(info);
-            }
+        match self.entries.get(at) {
+            Some(kept) => info_in(&kept.entry, id),
+            None => None,
         }
-        None
     }
 
-    /// Whether the trace was ended.
-    pub fn ended(&self, id: u64) -> bool
-        ensures { result ≡ list_any (ends id) (history self.now) }
+    /// The stream that the kept entry with this number, counted from 0, publishes as this track.
+    pub fn stream_at(&self, at: usize, id: u64, track: u32) -> Option<&TrackStream>
+        ensures { option_copied result ≡ told_at (stream_published id track) self.now.entries.items at }
     {
-        for kept in &self.entries {
-            if ends_in(&kept.entry, id) {
-                return true;
-            }
+        match self.entries.get(at) {
+            Some(kept) => stream_in(&kept.entry, id, track),
+            None => None,
         }
-        false
-    }
-
-    /// The stream that was published as this track of the trace, as of a place.
-    pub fn stream(&self, place: u64, id: u64, track: u32) -> Option<&TrackStream>
-        ensures { option_copied result ≡ stream_of (take place (history self.now)) id track }
-    {
-        let mut at = 0;
-        for kept in &self.entries {
-            at += kept.asked + 1;
-            if at > place {
-                return None;
-            }
-            if let Some(s) = stream_in(&kept.entry, id, track) {
-                return Some(s);
-            }
-        }
-        None
     }
 }

@@ -5,7 +5,7 @@ use Rattle.trace_base.specs.declared.names.TraceInfo.{TraceInfo}
 use Rattle.trace_base.specs.declared.stream.Event.{Event}
 use Rattle.trace_base.specs.declared.stream.TrackStream.{TrackStream}
 use Rattle.hall_trait.specs.History.{Entry, Published, tracks_of}
-use Rattle.plain_hall.specs.KeptHistory.{history}
+use Rattle.plain_hall.specs.FoundHistory.{entries}
 use Rattle.hall_trait.specs.Pass.{state_at, pass_view}
 use Rattle.plain_hall.specs.PlainHall.{seat_of}
 use Rattle.hall_trait.specs.Seat.{Removes}
@@ -57,7 +57,7 @@ seal-requires-clause-covers g c =
     record {
       from = ap (λ (p : LoadPass). p.from) on ∙ admitted.fresh.from;
       to = ap (λ (p : LoadPass). p.to) on ∙ admitted.fresh.to ∙ sym tracks ∙ ap
-          (tracks_of (history c.keep.new.self.past)) (sym id);
+          (tracks_of (entries c.keep.new.self.past)) (sym id);
     }
 
 pub returns : goal.returns

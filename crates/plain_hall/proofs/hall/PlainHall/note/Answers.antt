@@ -7,7 +7,7 @@ pub invariant_of-self : goal.invariant_of-self
 invariant_of-self c =
     let was = c.args.self.now in
     record {
-      kept = kept_asked _ _ was.owed was.opened was.live c.push_asked.ensures.seen c.requires was.kept;
+      kept = kept_asked _ _ was.owed was.live c.push_asked.ensures.seen c.requires was.kept;
       space = c.push_asked.ensures.space was.owed was.space;
       held = held_more _ _ _ was.pin c.push_asked.ensures.seen was.held;
     }

@@ -1,6 +1,6 @@
 use Rattle.std.proofs.Common.{◌≡◌, ◌+◌, [], ◌∷◌, ◌++◌, length, refl, sym, ap, ◌∙◌, arith}
-use Rattle.hall_trait.specs.History.{Opened}
-use Rattle.plain_hall.specs.KeptHistory.{history}
+use Rattle.hall_trait.specs.History.{Opened, opened_ids}
+use Rattle.plain_hall.specs.FoundHistory.{entries}
 use Rattle.std.specs.Arc.{arc_value}
 use Rattle.hall_trait.specs.Pass.{state_at, IsFresh}
 use Rattle.hall_trait.specs.declared.pass.LoadPass.{LoadPass}
@@ -12,7 +12,19 @@ use Rattle.plain_hall.proofs.hall.PlainHall.open_trace.Goals as goal
 
 pub overflow_add-id : goal.overflow_add-id
 overflow_add-id c = let was = c.args.self.now
-    in omega (arith, given_few _ was.owed was.opened was.live was.kept)
+    in omega (arith, c.opened-id.ensures, given_few _ was.owed was.live was.kept)
+
+pub push_opened-place-requires : goal.push_opened-place-requires
+push_opened-place-requires c =
+    let was = c.args.self.now in
+    record {
+      space = omega (arith, c.requires.space);
+      fits = omega (arith, c.requires.room);
+      spot = c.requires.spot;
+      none = c.requires.none;
+      room = c.requires.tracks;
+      orderly = was.kept.orderly;
+    }
 
 pub invariant_of-self : goal.invariant_of-self
 invariant_of-self c =
@@ -21,10 +33,11 @@ invariant_of-self c =
     c.from.ensures ∙ c.len-tracks.ensures ∙ ap (λ (i : TraceInfo). length i.names.tracks) c.deref.ensures
     in
     record {
-      kept = rw tracks (kept_opened _ _ was.owed was.opened was.live (was.opened + 1) (arc_value c.args.info)
-          c.push-place.ensures.seen refl c.requires.legal c.requires.few c.requires.room was.kept);
-      space = c.push-place.ensures.space (was.owed + (c.from.result + 1)) (omega (arith, c.requires.space));
-      held = held_more _ _ _ was.pin c.push-place.ensures.seen was.held;
+      kept = rw tracks (kept_opened _ _ was.owed was.live _ (arc_value c.args.info)
+          c.push_opened-place.ensures.seen refl c.requires.legal c.requires.few c.requires.room was.kept);
+      space = c.push_opened-place.ensures.space (was.owed + (c.from.result + 1))
+          (omega (arith, c.requires.space));
+      held = held_more _ _ _ was.pin c.push_opened-place.ensures.seen was.held;
     }
 
 pub returns : goal.returns
@@ -39,8 +52,11 @@ returns c =
       to = ap (λ (p : LoadPass). p.to) c.new.ensures ∙ tracks;
       state = ap (λ (p : LoadPass). p.state) c.new.ensures ∙ ap (state_at 0) tracks;
     } in
-    let id : pass.id ≡ was.opened + 1 = ap (λ (p : LoadPass). p.id) c.new.ensures in
-    let seen = c.push-place.ensures.seen ∙ ap (λ i. history was.past ++ Opened i (arc_value c.args.info) ∷ [])
-    (sym id) in
-    opened_answer _ _ was.owed was.opened was.live _ pass (arc_value c.args.info) seen id
-    (ap (λ (p : LoadPass). p.place) c.new.ensures ∙ c.push-place.ensures.place) fresh c.requires.room was.kept
+    let id : pass.id ≡ length (opened_ids (entries was.past)) + 1 =
+    ap (λ (p : LoadPass). p.id) c.new.ensures ∙ ap (λ n. n + 1) c.opened-id.ensures in
+    let seen = c.push_opened-place.ensures.seen ∙ ap (λ i. entries was.past
+    ++ Opened i (arc_value c.args.info)
+    ∷ []) (sym id) in
+    opened_answer _ _ was.owed was.live _ pass (arc_value c.args.info) seen id
+    (ap (λ (p : LoadPass). p.place) c.new.ensures ∙ c.push_opened-place.ensures.place) fresh c.requires.room
+    was.kept

@@ -9,7 +9,7 @@ pub invariant_of-self : goal.invariant_of-self
 invariant_of-self g c =
     let was = c.args.self.now in
     record {
-      kept = subst (λ (es : List Entry). IsKept es was.owed was.opened was.live) (sym c.reserve.ensures.seen)
+      kept = subst (λ (es : List Entry). IsKept es was.owed was.live) (sym c.reserve.ensures.seen)
           was.kept;
       space = c.reserve.ensures.same was.owed was.space;
       held = subst (λ (es : List Entry). ForSome was.pin (IsHeld es)) (sym c.reserve.ensures.seen) was.held;

@@ -1,6 +1,6 @@
 use Rattle.std.proofs.Common.{◌≡◌, true, ap, sym, ◌∙◌, arith, subst}
 use Rattle.hall_trait.specs.History.{is_open}
-use Rattle.plain_hall.specs.KeptHistory.{history}
+use Rattle.plain_hall.specs.FoundHistory.{entries}
 use Rattle.hall_trait.specs.Pin.{first_id, second_id}
 use Rattle.plain_hall.specs.PlainSeat.{IsHeld}
 use Rattle.plain_hall.specs.declared.kept_pin.KeptPin.{KeptPin}
@@ -10,12 +10,12 @@ use Rattle.plain_hall.proofs.hall.PlainHallHall.ask.Goals as goal
 
 pub overflow_add-next : goal.overflow_add-next
 overflow_add-next g c = let now = c.note-place.new.self
-    in omega (arith, given_few _ now.owed now.opened now.live now.kept)
+    in omega (arith, given_few _ now.owed now.live now.kept)
 
 pub invariant_of-self : goal.invariant_of-self
 invariant_of-self g c =
     let now = c.note-place.new.self in
-    let es = history now.past in
+    let es = entries now.past in
     let first : is_open es (first_id c.args.ids) ≡ true = ap (is_open es) (sym c.first_of.ensures) ∙
     (cond_some _ _ _ (sym c.tracks.ensures ∙ c.in-Some.is)).0 in
     let second : is_open es (second_id c.args.ids) ≡ true = ap (is_open es) (sym c.second_of.ensures) ∙

@@ -5,39 +5,40 @@ use Rattle.plain_hall.proofs.Passes.{sealed_ends}
 use Rattle.plain_hall.proofs.Steps.{owes, kept_sealed}
 use Rattle.plain_hall.proofs.hall.PlainHallHall.seal.Goals as goal
 
-pub push-place-requires-clause-space : goal.push-place-requires-clause-space
-push-place-requires-clause-space g c =
+pub push_sealed-place-requires-clause-space : goal.push_sealed-place-requires-clause-space
+push_sealed-place-requires-clause-space g c =
     let was = c.args.self.now in
-    let facts = pass_facts _ was.owed was.opened was.live c.args.pass was.kept c.requires.has in
-    omega (arith, was.space, owes _ was.owed was.opened was.live c.args.pass.id was.kept facts.loading)
+    let facts = pass_facts _ was.owed was.live c.args.pass was.kept c.requires.has in
+    omega (arith, was.space, owes _ was.owed was.live c.args.pass.id was.kept facts.loading)
 
-pub push-place-requires-clause-fits : goal.push-place-requires-clause-fits
-push-place-requires-clause-fits g c =
+pub push_sealed-place-requires-clause-fits : goal.push_sealed-place-requires-clause-fits
+push_sealed-place-requires-clause-fits g c =
     let was = c.args.self.now in
-    let facts = pass_facts _ was.owed was.opened was.live c.args.pass was.kept c.requires.has in
-    omega (arith, was.kept.fits, owes _ was.owed was.opened was.live c.args.pass.id was.kept facts.loading)
+    let facts = pass_facts _ was.owed was.live c.args.pass was.kept c.requires.has in
+    omega (arith, was.kept.fits, owes _ was.owed was.live c.args.pass.id was.kept facts.loading)
 
 pub overflow_sub-self : goal.overflow_sub-self
 overflow_sub-self g c =
     let was = c.args.self.now in
-    let facts = pass_facts _ was.owed was.opened was.live c.args.pass was.kept c.requires.has in
-    omega (arith, owes _ was.owed was.opened was.live c.args.pass.id was.kept facts.loading)
+    let facts = pass_facts _ was.owed was.live c.args.pass was.kept c.requires.has in
+    omega (arith, owes _ was.owed was.live c.args.pass.id was.kept facts.loading)
 
 pub invariant_of-self : goal.invariant_of-self
 invariant_of-self g c =
     let was = c.args.self.now in
-    let facts = pass_facts _ was.owed was.opened was.live c.args.pass was.kept c.requires.has in
-    let owed = owes _ was.owed was.opened was.live c.args.pass.id was.kept facts.loading in
+    let facts = pass_facts _ was.owed was.live c.args.pass was.kept c.requires.has in
+    let owed = owes _ was.owed was.live c.args.pass.id was.kept facts.loading in
     record {
-      kept = kept_sealed _ _ was.owed was.opened was.live c.args.pass.id c.push-place.ensures.seen
+      kept = kept_sealed _ _ was.owed was.live c.args.pass.id c.push_sealed-place.ensures.seen
           facts.loading (whole_is_all _ c.args.pass facts c.requires.whole) was.kept;
-      space = c.push-place.ensures.space (was.owed - 1) (omega (arith, was.space, owed));
-      held = held_more _ _ _ was.pin c.push-place.ensures.seen was.held;
+      space = c.push_sealed-place.ensures.space (was.owed - 1) (omega (arith, was.space, owed));
+      held = held_more _ _ _ was.pin c.push_sealed-place.ensures.seen was.held;
     }
 
 pub returns-clause-answer : goal.returns-clause-answer
 returns-clause-answer g c =
     let was = c.args.self.now in
-    let facts = pass_facts _ was.owed was.opened was.live c.args.pass was.kept c.requires.has in
-    load_entry _ _ _ c.args.pass _ c.push-place.result c.push-place.ensures.seen c.push-place.ensures.place
+    let facts = pass_facts _ was.owed was.live c.args.pass was.kept c.requires.has in
+    load_entry _ _ _ c.args.pass _ c.push_sealed-place.result c.push_sealed-place.ensures.seen
+    c.push_sealed-place.ensures.place
     facts (sealed_ends _ c.args.pass.id was.kept.orderly facts.loading).passes

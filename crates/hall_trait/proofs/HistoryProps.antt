@@ -22,10 +22,10 @@ Container-set = Coded-set container.the_row.coded
 Track-set : IsSet Track
 Track-set = Coded-set track.the_row.coded
 
-TraceInfo-set : IsSet TraceInfo
+pub TraceInfo-set : IsSet TraceInfo
 TraceInfo-set = Coded-set info.the_row.coded
 
-TrackStream-set : IsSet TrackStream
+pub TrackStream-set : IsSet TrackStream
 TrackStream-set = Coded-set stream.the_row.coded
 
 IsLegalInfo-prop : (i : TraceInfo) → IsProp (IsLegalInfo i)

@@ -1,0 +1,13 @@
+-- A history in which traces are found by their ids.
+use Rattle.std.specs.Prelude.{ℕ, List}
+use Rattle.hall_trait.specs.History.{Entry}
+use Rattle.plain_hall.specs.KeptHistory.{history, HasSpace}
+use Rattle.plain_hall.specs.declared.found_history.FoundHistory.{FoundHistory}
+
+-- its entries
+abbrev pub entries : FoundHistory → List Entry
+entries h = history h.past
+
+-- so many more entries that aren't questions can be kept with no more memory
+abbrev pub HasSpaceFor : FoundHistory → ℕ → Type 0
+HasSpaceFor h n = HasSpace h.past n
