@@ -26,10 +26,6 @@ keys_of-insert_entry cmp (e ∷ es) k v = by (cmp k e.0) (keys_of-insert_entry c
     by Equal rest = refl
     by Greater rest = ap (λ ks. e.0 ∷ ks) rest
 
-pub pair_cmp-total : IsTotalOrder pair_cmp
-pair_cmp-total = then_total (on_total (λ (p : ℕ × ℕ). p.0) nat_cmp_total)
-    (on_total (λ (p : ℕ × ℕ). p.1) nat_cmp_total)
-
 values_by_place : {K X : Type 0} (f : K → X) (es : List (K × X))
     → ((i : ℕ) (k : K) (v : X) → slice_get es i ≡ Some (k, v) → v ≡ f k) → values_of es ≡ map f (keys_of es)
 values_by_place f [] h = refl

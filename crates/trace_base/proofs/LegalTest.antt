@@ -7,6 +7,7 @@ use Rattle.std.proofs.lemmas.List.{take_all, get_or_default, length-map}
 use Rattle.std.proofs.lemmas.List.Sorted.{IsNonDecreasingBy-from_all_adjacent}
 use Rattle.std.proofs.lemmas.Option.{get_or_from_slice_get, slice_get_within}
 use Rattle.trace_base.specs.Examples.{two_calls, recursion, no_length}
+use Rattle.trace_base.specs.FoldExamples.{both_ways, siblings}
 use Rattle.trace_base.specs.Stream.{time_of, is_enter, stack_after, moments, IsLegal}
 use Rattle.trace_base.specs.declared.limits.TheConstants.{MAX_TIME, MAX_OPEN_CALLS, MAX_STATE_EVENTS}
 use Rattle.trace_base.specs.declared.limits.TheConstants.{MAX_FUNCTIONS}
@@ -111,4 +112,14 @@ recursion-legal = IsLegal-from recursion
 pub no_length-legal : IsLegal no_length
 unfolding stack_after
 no_length-legal = IsLegal-from no_length
+    (record { in_time = refl; in_order = refl; each = refl; all_closed = refl; depth = refl; calls = refl })
+
+pub both_ways-legal : IsLegal both_ways
+unfolding stack_after
+both_ways-legal = IsLegal-from both_ways
+    (record { in_time = refl; in_order = refl; each = refl; all_closed = refl; depth = refl; calls = refl })
+
+pub siblings-legal : IsLegal siblings
+unfolding stack_after
+siblings-legal = IsLegal-from siblings
     (record { in_time = refl; in_order = refl; each = refl; all_closed = refl; depth = refl; calls = refl })
