@@ -1,5 +1,6 @@
 -- The different call paths of a stream, one event more, and the rows of paths, one path more.
-use Rattle.std.proofs.Common.{◌≡◌, ℕ, ◌+◌, ◌<◌, ◌≤◌, not, Bool, true, false, cond, List, [], ◌∷◌, ◌++◌, length}
+use Rattle.std.proofs.Common.{◌≡◌, ℕ, ◌+◌, ◌<◌, ◌≤◌, not, Bool, true, false, cond, List, [], ◌∷◌, ◌++◌}
+use Rattle.std.proofs.Common.{length}
 use Rattle.std.proofs.Common.{take, get_or, map, filter, refl, ap, subst, sym, ◌∙◌, arith, append-nil}
 use Rattle.std.proofs.Common.{Vec, Global}
 use Rattle.std.specs.BTreeSet.{insert_key}
@@ -32,7 +33,8 @@ map-insert_key read cmp (x ∷ xs) k = by (cmp (read k) (read x)) (map-insert_ke
   where
     by : (r : Ordering)
         → map read (insert_key (λ x y. cmp (read x) (read y)) xs k) ≡ insert_key cmp (map read xs) (read k)
-        → map read (match_ordering r (k ∷ x ∷ xs) (x ∷ xs) (x ∷ insert_key (λ x y. cmp (read x) (read y)) xs k))
+        → map read (match_ordering r (k ∷ x ∷ xs) (x ∷ xs)
+            (x ∷ insert_key (λ x y. cmp (read x) (read y)) xs k))
         ≡ match_ordering r (read k ∷ read x ∷ map read xs) (read x ∷ map read xs)
         (read x ∷ insert_key cmp (map read xs) (read k))
     by Less rest = refl

@@ -171,7 +171,8 @@ fn flat_profile_of_three_streams(rt: HostRuntime) -> Result<(), Fail> {
     let w = both_ways(rt.alloc())?;
     let z = no_length(rt.alloc())?;
     let all = flat_of_all(rt.alloc(), &[&r, &w, &z], 0, 10)?;
-    // Function 1: calls 2 + 2 + 0, incl 10 + 8 + 0, excl 10 + 7 + 0. Function 2 is called in the second alone.
+    // Function 1: calls 2 + 2 + 0, incl 10 + 8 + 0, excl 10 + 7 + 0. Function 2 is called in the second
+    // alone.
     assert!(rt; is(&all, 10, &[row(1, 4, 18, 17), row(2, 2, 5, 3)]));
     Ok(())
 }

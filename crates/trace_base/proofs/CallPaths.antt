@@ -1,5 +1,5 @@
--- The call paths of streams are what a call stack of them begins with: the stack was each of its paths itself,
--- when that path's innermost call was entered.
+-- The call paths of streams are what a call stack of them begins with: the stack was each of its paths
+-- itself, when that path's innermost call was entered.
 use Rattle.std.proofs.Common.{◌≡◌, ◌≢◌, ℕ, ◌+◌, ◌-◌, ◌<◌, ◌≤◌, zero, suc, not, Bool, true, false, cond}
 use Rattle.std.proofs.Common.{List, [], ◌∷◌, ◌++◌, length, take, get_or, filter, refl, ap, sym, subst, ◌∙◌}
 use Rattle.std.proofs.Common.{◌⊎◌, inl, inr, arith, add-one, length-append}
@@ -9,7 +9,8 @@ use Rattle.std.specs.Ordering.{nat_cmp}
 use Rattle.std.proofs.lemmas.Bool.{cases_lt, true≢false}
 use Rattle.std.proofs.lemmas.Cmp.{nat_list_cmp_total}
 use Rattle.std.proofs.lemmas.List.{length-take, take-append-le, take-take, take_all}
-use Rattle.std.proofs.lemmas.List.Elements.{Contains-append_cases, Contains-append_left, Contains-append_right}
+use Rattle.std.proofs.lemmas.List.Elements.{Contains-append_cases, Contains-append_left}
+use Rattle.std.proofs.lemmas.List.Elements.{Contains-append_right}
 use Rattle.std.proofs.lemmas.List.FromFn.{get_or-map-range_with_len, length-map-range_with_len}
 use Rattle.std.proofs.lemmas.List.Sums.{fold_more}
 use Rattle.std.specs.FinMap.{nat_cmp-IsAntisymmetric, slice_cmp-IsAntisymmetric}
@@ -169,7 +170,8 @@ path_to : (streams : List TrackStream) (path : List ℕ) → IsPathOf streams pa
     → Contains (filter (λ stack. not (is_bare stack)) (flat_map call_stacks streams)) path
 path_to streams path h = filter-keeps (λ stack. not (is_bare stack)) (flat_map call_stacks streams) path
     (flat_map-keeps call_stacks streams h.stream path h.has
-    (call_stacks-keeps h.stream path (reached h.stream.events path h.some h.events h.calls h.within h.begins)))
+    (call_stacks-keeps h.stream path (reached h.stream.events path h.some h.events h.calls h.within
+        h.begins)))
     (not_bare path h.some)
 
 pub call_paths-rising : (streams : List TrackStream)

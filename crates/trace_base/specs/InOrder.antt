@@ -10,6 +10,7 @@ abbrev pub distinct_in_order : {K : Type 0} → (K → K → Ordering) → List 
 distinct_in_order cmp xs = fold (insert_key cmp) [] xs
 
 -- the list rises strictly in the order, and has exactly the items of which the fact holds
-pub record IsRisingListOf {K : Type 0} (cmp : K → K → Ordering) (Has : K → Type 0) (xs : List K) : Type 0 where
+pub record IsRisingListOf {K : Type 0} (cmp : K → K → Ordering) (Has : K → Type 0) (xs : List K) : Type 0
+    where
   pub rises : IsStrictlySortedBy cmp xs
   pub exact : (x : K) → Contains xs x ↔ Has x

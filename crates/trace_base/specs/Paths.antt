@@ -49,8 +49,8 @@ path_stands streams a b path = nat_lt 0 (sum_by (calls_making (is_under path) a 
 abbrev pub call_stacks : TrackStream → List (List ℕ)
 call_stacks s = map (λ n. stack_after (take n s.events)) (range_with_len 1 (length s.events))
 
--- the different call paths of the streams, in depth-first order: a path comes before those that go on from it,
--- and siblings rise by function
+-- the different call paths of the streams, in depth-first order: a path comes before those that go on from
+-- it, and siblings rise by function
 unfoldable pub call_paths : List TrackStream → List (List ℕ)
 call_paths streams = distinct_in_order (slice_cmp nat_cmp)
     (filter (λ stack. not (is_bare stack)) (flat_map call_stacks streams))

@@ -1,7 +1,8 @@
 //! The definitions of timelines, call-tree profiles, messages and matrices, computed on small inputs. Each
 //! clause is the equation; the bodies are empty.
 ghost use Rattle.std.specs.Prelude.{◌≡◌, [], ◌∷◌};
-ghost use Rattle.trace_base.specs.FoldExamples.{no_time_under, both_ways, siblings, three_starts, crossed, end_first};
+ghost use Rattle.trace_base.specs.FoldExamples.{no_time_under, both_ways, siblings, three_starts, crossed};
+ghost use Rattle.trace_base.specs.FoldExamples.{end_first};
 ghost use Rattle.trace_base.specs.Matrix.{matrix_of};
 ghost use Rattle.trace_base.specs.Messages.{table_of};
 ghost use Rattle.trace_base.specs.Paths.{paths};
@@ -20,8 +21,8 @@ pub fn timeline_of_two_calls()
     ensures uneven { timeline both_ways 0 3 2 ≡ 2 ∷ 1 ∷ [] }
 {}
 
-/// The call-tree profile of a call that calls itself, of two functions that call each other, of a path that is
-/// told only because a call under it began, and of siblings.
+/// The call-tree profile of a call that calls itself, of two functions that call each other, of a path that
+/// is told only because a call under it began, and of siblings.
 #[tactic(auto, unfolding(crate::specs::Stream::stack_after, crate::specs::Stream::pieces, crate::specs::Flat::time_with, crate::specs::Paths::calls_making, crate::specs::Paths::path_row, crate::specs::Paths::path_stands, crate::specs::Paths::call_paths, crate::specs::Paths::paths))]
 pub fn paths_of_small_streams()
     ensures recursion { paths (recursion ∷ []) 0 10 ≡ record {
