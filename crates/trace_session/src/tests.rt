@@ -4,10 +4,11 @@ ghost use Rattle.std.specs.Prelude.{◌≤◌};
 use crate::{End, SessionBuf, run, session};
 use plain_hall::PlainHall;
 use std::alloc::Global;
+use std::cell::RefCell;
 use std::process::Abort;
 use std::sync::Wait;
 use std::test::Fail;
-use trace_base::{Faults, MemSink, MemSource, Memory, ReadAnswer, Seq, Source};
+use trace_base::{Faults, MemSink, MemSource, ReadAnswer, Seq, Sink, Source, WriteAnswer};
 
 /// The head of a small text.
 const HEAD: &str =
@@ -313,5 +314,157 @@ fn batch_has_the_status_of_its_end(rt: HostRuntime) -> Result<(), Fail> {
         let (status, _) = ran(&rt, alloc, &["batch"], &mut input, sink_fails)?;
         assert_eq!(rt; status, wanted, "for {text:?}");
     }
+    Ok(())
+}
+
+/// A trace of three tracks. The first is bare in its last tenth of a second, and the two others call f for
+/// two tenths and for one.
+const THREE_TRACKS: &str =
+    "2 0 p0 P 0 \"rank 0\"\n2 0 p1 P 0 \"rank 1\"\n2 0 p2 P 0 \"rank 2\"\n4 0 S p0 main\n4 0 S p1 main\n4 0 S p2 main\n4 0.1 S p1 f\n4 0.2 S p2 f\n5 0.3 S p1\n5 0.3 S p2\n5 0.4 S p0\n5 0.5 S p1\n5 0.5 S p2\n3 0.5 P p0\n3 0.5 P p1\n3 0.5 P p2\n";
+
+/// The replies to a PUT of it, and to two profiles: of all of it, and of its second tenth.
+const THREE_TRACKS_REPLIES: &str =
+    "OK PUT 1 3 2 0 @5\nOK FLAT 2 3 100000000 @6\n1 3 1400000000 1100000000 main\n2 2 300000000 300000000 f\nOK FLAT 2 3 0 @7\n1 0 300000000 200000000 main\n2 1 100000000 100000000 f\nOK QUIT\n";
+
+// Memory is there, so none of these is told as want of it.
+#[test]
+fn two_profiles_over_three_tracks(rt: HostRuntime) -> Result<(), Fail> {
+    let alloc = rt.alloc();
+    let len = HEAD.len().saturating_add(THREE_TRACKS.len());
+    let text = format!(in alloc;
+        "PUT {len}\n{HEAD}{THREE_TRACKS}FLAT 1 * 0 500000000\nFLAT 1 * 100000000 200000000\nQUIT\n"
+    )?;
+    let (end, written) = served(&rt, alloc, text.as_bytes(), 4096, &[], &[])?;
+    assert_eq!(rt; end, End::Quit);
+    assert_eq!(rt; written.as_slice(), THREE_TRACKS_REPLIES.as_bytes());
+    Ok(())
+}
+
+// A trace in which main runs for half a second, and makes so many calls of no time. The alias and the name of
+// the function have 32 letters and digits, and a time has 20.
+fn many_calls(alloc: Global, count: usize) -> Result<String, Fail> {
+    let alias = "p0123456789012345678901234567890";
+    let function = "solve012345678901234567890123456";
+    let time = "0000000000.100000000";
+    let mut text = format!(in alloc;
+        "{HEAD}2 0 {alias} P 0 \"rank 0 of the text\"\n4 0 S {alias} main\n"
+    )?;
+    let call = format!(in alloc; "4 {time} S {alias} {function}\n5 {time} S {alias}\n")?;
+    for _ in 0..count {
+        text.push_str(call.as_str())?;
+    }
+    text.push_str(
+        "5 0.5 S p0123456789012345678901234567890\n3 0.5 P p0123456789012345678901234567890\n",
+    )?;
+    Ok(text)
+}
+
+/// The replies to a PUT of 431 such calls, and to a profile of them.
+const MANY_CALLS_REPLIES: &str =
+    "OK PUT 1 1 2 0 @3\nOK FLAT 2 1 0 @4\n1 1 500000000 500000000 main\n2 431 0 0 solve012345678901234567890123456\nOK QUIT\n";
+
+// A call has 149 bytes, and the other lines 781.
+#[test]
+fn a_text_of_65_000_bytes(rt: HostRuntime) -> Result<(), Fail> {
+    let alloc = rt.alloc();
+    let trace = many_calls(alloc, 431)?;
+    assert_eq!(rt; trace.len(), 65_000);
+    let text = format!(in alloc; "PUT 65000\n{trace}FLAT 1 * 0 500000000\nQUIT\n")?;
+    let (end, written) = served(&rt, alloc, text.as_bytes(), 4096, &[], &[])?;
+    assert_eq!(rt; end, End::Quit);
+    assert_eq!(rt; written.as_slice(), MANY_CALLS_REPLIES.as_bytes());
+    Ok(())
+}
+
+// The sending half of a client that logs what it sends, a line a read, each behind `>`.
+#[derive(Drop)]
+struct Sending<'a> {
+    lines: &'a [&'a [u8]],
+    sent: usize,
+    log: &'a RefCell<Vec<u8>>,
+}
+
+// Its receiving half, which logs the bytes that come back.
+#[derive(Drop)]
+struct Receiving<'a> {
+    log: &'a RefCell<Vec<u8>>,
+}
+
+// Adds bytes to a log.
+fn note(log: &RefCell<Vec<u8>>, bytes: &[u8]) {
+    if let Ok(mut all) = log.try_borrow_mut() {
+        let _ = all.extend_from_slice(bytes);
+    }
+}
+
+impl Faults for Sending<'_> {
+    ghost faults = { λ _. 0 };
+
+    fn faults(&self) -> u64 {
+        0
+    }
+}
+
+impl Source for Sending<'_> {
+    ghost use Rattle.std.specs.Prelude.{None};
+
+    ghost left = { λ _. None };
+
+    fn read(&mut self, into: &mut [u8]) -> ReadAnswer {
+        let Some(line) = self.lines.get(self.sent) else {
+            return ReadAnswer::End;
+        };
+        let n = line.len().min(into.len());
+        if n == 0 {
+            return ReadAnswer::End;
+        }
+        into[..n].copy_from_slice(&line[..n]);
+        note(self.log, b">");
+        note(self.log, line);
+        self.sent = self.sent.saturating_add(1);
+        ReadAnswer::Got(n)
+    }
+}
+
+impl Faults for Receiving<'_> {
+    ghost faults = { λ _. 0 };
+
+    fn faults(&self) -> u64 {
+        0
+    }
+}
+
+impl Sink for Receiving<'_> {
+    ghost use Rattle.std.specs.Prelude.{None};
+
+    ghost held = { λ _. None };
+
+    fn write(&mut self, bytes: &[u8]) -> WriteAnswer {
+        note(self.log, bytes);
+        WriteAnswer::Took(bytes.len())
+    }
+}
+
+// A client that waits for each reply before it sends its next line isn't left waiting.
+#[test]
+fn each_reply_stands_before_the_next_read(rt: HostRuntime) -> Result<(), Fail> {
+    let alloc = rt.alloc();
+    let log = RefCell::new(Vec::new(alloc));
+    let lines: [&[u8]; 4] = [b"PUT 2\nab", b"FLAT 7 * 0 1\n", b"LIST\n", b"QUIT\n"];
+    let mut hall = PlainHall::new(alloc)?;
+    let mut buf = SessionBuf::new(alloc)?;
+    let mut input = Sending {
+        lines: &lines,
+        sent: 0,
+        log: &log,
+    };
+    let mut output = Receiving { log: &log };
+    let end = session(&rt, alloc, &mut hall, &mut input, &mut output, &mut buf);
+    assert_eq!(rt; end, End::Quit);
+    let seen = log.try_borrow()?;
+    assert_eq!(rt;
+        seen.as_slice(),
+        b">PUT 2\nabNO 29\n>FLAT 7 * 0 1\nNO 30 7 @1\n>LIST\nNO 10\n>QUIT\nOK QUIT\n".as_slice()
+    );
     Ok(())
 }
