@@ -59,3 +59,6 @@ legal_before entries n legal k x found =
     let same : take k (take n entries) ≡ take k entries = take-take k n entries (omega arith) in
     subst (λ (before : List Entry). MayFollow before x) (sym same)
     (legal k x (sym (slice_get-take n entries k short) ∙ found))
+
+pub legal_none : IsLegalHistory []
+legal_none k e at = absurd cc

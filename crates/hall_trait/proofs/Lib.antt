@@ -1,3 +1,4 @@
 pub mod HistoryProps
 pub mod Legal
 pub mod More
+pub mod Samples

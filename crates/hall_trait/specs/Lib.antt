@@ -1,4 +1,5 @@
 pub mod Answers
+pub mod Examples
 pub mod History
 pub mod Pass
 pub mod Pin

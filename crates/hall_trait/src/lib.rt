@@ -3,11 +3,19 @@
 #![tactic(auto)]
 
 mod answers;
+mod examples;
 mod hall;
 mod pass;
 mod pin;
 
 pub use answers::{AskAnswer, HallFault};
+pub use examples::{
+    ids_of_small_history, places_of_small_history, small_history_is_legal, states_of_small_history,
+    unlawful_ends, unlawful_openings, unlawful_publications,
+};
 pub use hall::Hall;
 pub use pass::LoadPass;
 pub use pin::Pin;
+
+#[cfg(test)]
+mod tests;

@@ -16,51 +16,6 @@ use Rattle.hall_trait.specs.History.{Entry, Published, info_of, tracks_of}
 use Rattle.hall_trait.specs.Seat.{Adds, Becomes, Removes, Replaces}
 use Rattle.hall_trait.proofs.More.{info_more, or_none}
 
--- a track on which nothing happens
-abbrev pub quiet : TrackStream
-quiet = record { start = 0; end = 10; events = [] }
-
-quiet_order : IsNonDecreasing (0 ∷ 10 ∷ [])
-quiet_order zero zero d le lt = lit≤ tt
-quiet_order zero (suc zero) d le lt = lit≤ tt
-quiet_order zero (suc (suc j)) d le lt = absurd (omega arith)
-quiet_order (suc i) zero d le lt = absurd (omega arith)
-quiet_order (suc zero) (suc zero) d le lt = lit≤ tt
-quiet_order (suc (suc i)) (suc zero) d le lt = absurd (omega arith)
-quiet_order (suc i) (suc (suc j)) d le lt = absurd (omega arith)
-
-take_none : (i : ℕ) → take {A = Event} i [] ≡ []
-take_none zero = refl
-take_none (suc i) = refl
-
-quiet_legal : IsLegal quiet
-unfolding stack_after
-quiet_legal = record {
-  in_time = lit≤ tt;
-  in_order = quiet_order;
-  closes_open = λ i t at. absurd cc;
-  all_closed = refl;
-  depth = λ i. subst (λ (es : List Event). length (stack_after es) ≤ 256) (sym (take_none i)) (lit≤ tt);
-  calls = lit≤ tt;
-  functions = λ i f t at. absurd cc;
-}
-
-pub quiet_fits : (info : TraceInfo) (s : TrackStream) (name : List ℕ) → s ≡ quiet
-    → info.names.tracks ≡ record { container = 0; kind = 0 } ∷ []
-    → info.names.containers ≡ record { name = name; start = 0; end = 10 } ∷ [] → Fits s info 0
-quiet_fits info s name same tracks containers = subst (λ (s : TrackStream). Fits s info 0) (sym same)
-    (record {
-      legal = quiet_legal;
-      interval = (
-        record { container = 0; kind = 0 },
-        record { name = name; start = 0; end = 10 },
-        ap (λ xs. slice_get xs 0) tracks,
-        ap (λ xs. slice_get xs 0) containers,
-        (refl, refl),
-      );
-      numbered = λ i f t at. absurd cc;
-    })
-
 -- an added pass is there, and one in place of another
 pub adds_has : {X : Type 0} (old new : List X) (x : X) → Adds old new x → Contains new x
 adds_has old new x adds = (

@@ -87,13 +87,19 @@ fn one_track(alloc: Global) -> Result<Arc<TraceInfo, Global>, Memory>
     info_of(alloc, containers, kinds, tracks)
 }
 
-// Loads the trace of one track, as the first of the hall.
-fn load_first<R: Abort + Wait>(hall: &mut PlainHall, rt: &R, alloc: Global) -> Result<(), Fail>
+// Loads the trace of one track, and tells its id and the places of its three entries.
+fn load<R: Abort + Wait>(
+    hall: &mut PlainHall,
+    rt: &R,
+    alloc: Global,
+    id: u64,
+    places: (u64, u64, u64),
+) -> Result<(), Fail>
     requires { IsAtRest (seat_of hall.old) }
     ensures { OnOk result (IsAtRest (seat_of hall.new)) }
 {
     let mut pass = hall.admit(rt, one_track(alloc)?)?;
-    assert_eq!(rt; (pass.id(), pass.place()), (1, 1));
+    assert_eq!(rt; (pass.id(), pass.place()), (id, places.0));
     assert_eq!(rt; (pass.from(), pass.to()), (0, 1));
     assert_eq!(rt; pass.state(), PassState::Straight(0));
     let s = TrackStream {
@@ -102,13 +108,13 @@ fn load_first<R: Abort + Wait>(hall: &mut PlainHall, rt: &R, alloc: Global) -> R
         events: Seq::new(alloc),
     };
     match hall.keep(rt, &mut pass, s) {
-        Ok(place) => assert_eq!(rt; place, 2),
+        Ok(place) => assert_eq!(rt; place, places.1),
         Err(fault) => {
             hall.abandon(rt, pass);
             return Err(fault.into());
         }
     }
-    assert_eq!(rt; hall.seal(rt, pass), 3);
+    assert_eq!(rt; hall.seal(rt, pass), places.2);
     Ok(())
 }
 
@@ -130,15 +136,16 @@ fn open_and_drop<R: Abort + Wait>(
     Ok(())
 }
 
-// Asks for the first trace, and reads its track and its names.
-fn ask_for_first<R: Abort + Wait>(hall: &mut PlainHall, rt: &R, place: u64)
+// Asks for two traces, of which the first has one track, and reads that track and the names of the second.
+fn ask_for<R: Abort + Wait>(hall: &mut PlainHall, rt: &R, ids: (u64, u64), place: u64)
     requires { IsAtRest (seat_of hall.old) }
     ensures { IsAtRest (seat_of hall.new) }
 {
-    match hall.ask(rt, AskIds::Two(1, 1)) {
+    match hall.ask(rt, AskIds::Two(ids.0, ids.1)) {
         AskAnswer::Pinned(pin) => {
             assert_eq!(rt; pin.place(), place);
-            assert_eq!(rt; pin.brief(0).tracks, 1);
+            assert_eq!(rt; (pin.id(0), pin.id(1)), ids);
+            assert_eq!(rt; (pin.brief(0).tracks, pin.brief(1).tracks), (1, 1));
             let end = hall.stream(&pin, 0).map(|s| s.end);
             assert_eq!(rt; end, Some(10));
             let info = hall.info(rt, &pin, 1);
@@ -185,12 +192,14 @@ fn the_open_traces_are_few(rt: HostRuntime) -> Result<(), Fail> {
 }
 
 #[test]
-fn a_trace_is_loaded_and_asked_for(rt: HostRuntime) -> Result<(), Fail> {
+fn traces_are_loaded_and_asked_for(rt: HostRuntime) -> Result<(), Fail> {
     let mut hall = PlainHall::new(rt.alloc())?;
-    load_first(&mut hall, &rt, rt.alloc())?;
-    ask_for_first(&mut hall, &rt, 4);
+    load(&mut hall, &rt, rt.alloc(), 1, (1, 2, 3))?;
+    ask_for(&mut hall, &rt, (1, 1), 4);
     ask_in_vain(&mut hall, &rt, 2, 2, 5);
     open_and_drop(&mut hall, &rt, rt.alloc(), 2, 6, 7)?;
     ask_in_vain(&mut hall, &rt, 2, 3, 8);
+    load(&mut hall, &rt, rt.alloc(), 3, (9, 10, 11))?;
+    ask_for(&mut hall, &rt, (3, 1), 12);
     Ok(())
 }

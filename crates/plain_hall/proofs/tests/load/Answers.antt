@@ -10,8 +10,10 @@ use Rattle.hall_trait.specs.Pass.{state_at, pass_view}
 use Rattle.plain_hall.specs.PlainHall.{seat_of}
 use Rattle.hall_trait.specs.Seat.{Removes}
 use Rattle.hall_trait.specs.declared.pass.LoadPass.{LoadPass}
-use Rattle.plain_hall.proofs.Samples.{quiet, quiet_fits, replaces_has, none_left, tracks_stay}
-use Rattle.plain_hall.proofs.tests.load_first.Goals as goal
+use Rattle.hall_trait.specs.Examples.{quiet}
+use Rattle.hall_trait.proofs.Samples.{quiet_fits}
+use Rattle.plain_hall.proofs.Samples.{replaces_has, none_left, tracks_stay}
+use Rattle.plain_hall.proofs.tests.load.Goals as goal
 
 pub keep-requires-clause-fits : goal.keep-requires-clause-fits
 keep-requires-clause-fits g c =
