@@ -132,11 +132,19 @@ exponent_reads [] (Some x) is = cc
 exponent_reads (b ∷ bs) e is = exponent_first b bs e (is_exponent_letter b) refl
     (are_exponent_digits (drop (sign_len bs) bs)) refl is
 
-parts_cases : (b : Bool) (x : Option (Option Exponent)) (f : Option Exponent → Date) (d : Date)
-    → cond b None (option_map f x) ≡ Some d → (b ≡ false) × ((e : Option Exponent) × (x ≡ Some e) × (f e ≡ d))
+-- a date that has parts has digits, and an exponent or none behind them
+record HasParts (none : Bool) (x : Option (Option Exponent)) (f : Option Exponent → Date) (d : Date) : Type 0
+  where
+    digits : none ≡ false
+    exponent : Option Exponent
+    read : x ≡ Some exponent
+    made : f exponent ≡ d
+
+parts_cases : (none : Bool) (x : Option (Option Exponent)) (f : Option Exponent → Date) (d : Date)
+    → cond none None (option_map f x) ≡ Some d → HasParts none x f d
 parts_cases true x f d is = cc
 parts_cases false None f d is = cc
-parts_cases false (Some e) f d is = (refl, (e, refl, cc))
+parts_cases false (Some e) f d is = record { digits = refl; exponent = e; read = refl; made = cc }
 
 body_split : (body : List ℕ) → body ≡ take_while is_ascii_digit body
     ++ (fraction_text (fraction_at body) ++ behind_digits body)
@@ -161,11 +169,11 @@ parts_read text d is =
     let body = body_of text in
     let cut = parts_cases (length (digits_at body) == 0) (exponent_of (behind_digits body))
     (unsigned_of (take (sign_len text) text) body) d is in
-    let none : (length (digits_at body) == 0) ≡ false = cut.0 in
-    let e = cut.1.0 in
-    let read = exponent_reads (behind_digits body) e cut.1.1 in
+    let none : (length (digits_at body) == 0) ≡ false = cut.digits in
+    let e = cut.exponent in
+    let read = exponent_reads (behind_digits body) e cut.read in
     let P : Date → Type 0 = λ x. IsDate x × (text ≡ date_text x) in
-    subst P cut.1.2 (date_of_parts text e (grind (arith, nat_tests, none)) read.0 read.1)
+    subst P cut.made (date_of_parts text e (grind (arith, nat_tests, none)) read.0 read.1)
 
 -- ---- a date's text is read as its parts
 

@@ -23,16 +23,15 @@ use Rattle.paje_lex.specs.DateReading.{IsRead, unsigned_of, parts_of, date_of, m
 abbrev pub exponent_number : List ℕ → Option ℕ
 exponent_number bs = cond (are_exponent_digits bs) (Some (digits_value 10 bs)) None
 
-signed_cases : (b : Bool) (sign digits : List ℕ) (n size : ℕ) → Some size ≡ cond b (Some n) None → (b ≡ true)
-    × (n ≡ size)
-signed_cases true sign digits n size e = (refl, cc)
-signed_cases false sign digits n size e = cc
+signed_cases : (b : Bool) (n size : ℕ) → Some size ≡ cond b (Some n) None → (b ≡ true) × (n ≡ size)
+signed_cases true n size e = (refl, cc)
+signed_cases false n size e = cc
 
 pub signed_some : (bs : List ℕ) (size : ℕ) → Some size ≡ exponent_number (drop (sign_len bs) bs)
     → option_map (λ e. tens_of (Some e)) (exponent_behind 101 bs) ≡ Some
     (cond (is_minus (take (sign_len bs) bs)) 0 size, cond (is_minus (take (sign_len bs) bs)) size 0)
 signed_some bs size e =
-    let both = signed_cases (are_exponent_digits (drop (sign_len bs) bs)) [] []
+    let both = signed_cases (are_exponent_digits (drop (sign_len bs) bs))
     (digits_value 10 (drop (sign_len bs) bs)) size e in
     rw both.0
     (ap (λ n. Some (

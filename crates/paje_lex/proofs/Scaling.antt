@@ -79,6 +79,12 @@ lowered_limit n head more low up down e below small far =
     (10 ^ up) e below
     small ten (ten_pow_pos up)
 
+-- the number times a power of ten, by its head and what is behind
+split : (n head low q u s d : ℕ) → n ≡ head * q + low → q * u ≡ s * d → n * u ≡ head * s * d + low * u
+split n head low q u s d e turned =
+    let m : head * (q * u) ≡ head * (s * d) = ap (λ x. head * x) turned in
+    rw e (omega arith)
+
 -- the head with zeros behind it is the time
 pub raised_ok : (n head low q u s d : ℕ) → n ≡ head * q + low → low < q → q * u ≡ s * d → 0 < u → (s ≡ 1)
     ⊎ (low ≡ 0) → (head * s < MAX_TIME) ⊎ ((head * s ≡ MAX_TIME) × (low ≡ 0))
@@ -88,10 +94,6 @@ raised_ok n head low q u s d e below turned some exact limit =
     let rest : low * u < d = behind low q u s d below turned some exact in
     within (n * u) d (head * s) (omega arith) (omega arith) (fits n u low d (head * s) parts rest limit)
   where
-    split : (n head low q u s d : ℕ) → n ≡ head * q + low → q * u ≡ s * d → n * u ≡ head * s * d + low * u
-    split n head low q u s d e turned = let m : head * (q * u) ≡ head * (s * d) = ap (λ x. head * x) turned
-        in rw e (omega arith)
-
     behind : (low q u s d : ℕ) → low < q → q * u ≡ s * d → 0 < u → (s ≡ 1) ⊎ (low ≡ 0) → low * u < d
     behind low q u s d below turned some (inl one) =
         let m = mul-le-mul_right {m = low + 1} {n = q} u (omega arith) in
@@ -122,10 +124,6 @@ raised_big n head low q u s d e turned some pos above =
     rw (lt-ltb (MAX_TIME * d) (n * u) (over n u low d (head * s) (split n head low q u s d e turned) some pos
     above)) refl
   where
-    split : (n head low q u s d : ℕ) → n ≡ head * q + low → q * u ≡ s * d → n * u ≡ head * s * d + low * u
-    split n head low q u s d e turned = let m : head * (q * u) ≡ head * (s * d) = ap (λ x. head * x) turned
-        in rw e (omega arith)
-
     over : (n u low d h : ℕ) → n * u ≡ h * d + low * u → 0 < u → 0 < d → (MAX_TIME < h)
         ⊎ ((h ≡ MAX_TIME) × (0 < low)) → MAX_TIME * d < n * u
     over n u low d h parts some pos (inl above) =
