@@ -34,7 +34,7 @@ map-insert_key read cmp (x ∷ xs) k = by (cmp (read k) (read x)) (map-insert_ke
     by : (r : Ordering)
         → map read (insert_key (λ x y. cmp (read x) (read y)) xs k) ≡ insert_key cmp (map read xs) (read k)
         → map read (match_ordering r (k ∷ x ∷ xs) (x ∷ xs)
-            (x ∷ insert_key (λ x y. cmp (read x) (read y)) xs k))
+        (x ∷ insert_key (λ x y. cmp (read x) (read y)) xs k))
         ≡ match_ordering r (read k ∷ read x ∷ map read xs) (read x ∷ map read xs)
         (read x ∷ insert_key cmp (map read xs) (read k))
     by Less rest = refl

@@ -1,6 +1,6 @@
 -- The time in which the call stack has a property, piece by piece, and why the sums fit: the pieces of a
 -- legal stream lie one after the other between its start and its end.
-use Rattle.std.proofs.Common.{◌≡◌, ℕ, ◌+◌, ◌-◌, ◌^◌, ◌<◌, ◌≤◌, zero, suc, List, [], ◌∷◌, ◌++◌, length, take}
+use Rattle.std.proofs.Common.{◌≡◌, ℕ, ◌+◌, ◌-◌, ◌<◌, ◌≤◌, zero, suc, List, [], ◌∷◌, ◌++◌, length, take}
 use Rattle.std.proofs.Common.{get_or, slice_index, map, filter, sum_by, min, max, Bool, true, false, cond}
 use Rattle.std.proofs.Common.{refl, ap, sym, subst, ◌∙◌, zero-add, add-one, arith, length-append, slice_get}
 use Rattle.std.proofs.Common.{Option, Some, ◌&&◌, nat_le, nat_lt}
@@ -20,6 +20,7 @@ use Rattle.trace_base.specs.declared.stream.Event.{Event}
 use Rattle.trace_base.specs.declared.stream.Event.TheVariants.{Enter, Leave}
 use Rattle.trace_base.specs.declared.stream.TrackStream.{TrackStream}
 use Rattle.event_model.proofs.Lists.{sum_by-cond}
+use Rattle.trace_base.specs.declared.limits.TheConstants.{MAX_STATE_EVENTS, MAX_TIME}
 
 -- the moment before piece n
 pub moment : TrackStream → ℕ → ℕ
@@ -99,7 +100,7 @@ time_upto-le has a b s (suc n) legal h =
 
 -- the same, as a bound
 pub time_upto-limit : (has : List ℕ → Bool) (a b : ℕ) (s : TrackStream) (n : ℕ) → IsLegal s
-    → n ≤ length s.events + 1 → time_upto has a b s n ≤ 2 ^ 62
+    → n ≤ length s.events + 1 → time_upto has a b s n ≤ MAX_TIME
 time_upto-limit has a b s n legal h =
     omega (
       arith,
@@ -120,7 +121,7 @@ enters-le f a b (Enter g t) = cond-le (enters_in f a b (Enter g t)) 1 1 (omega a
 enters-le f a b (Leave t) = omega arith
 
 -- a legal stream has few calls
-pub calls_in-le : (f a b : ℕ) (s : TrackStream) → IsLegal s → calls_in f a b s ≤ 4194304
+pub calls_in-le : (f a b : ℕ) (s : TrackStream) → IsLegal s → calls_in f a b s ≤ MAX_STATE_EVENTS
 unfolding calls_in
 calls_in-le f a b s legal =
     omega (

@@ -1,8 +1,9 @@
 //! The flat profile: the passes over each stream, added.
-ghost use Rattle.std.specs.Prelude.{◌≡◌, ◌+◌, ◌*◌, ◌^◌, ◌<◌, ◌≤◌, [], ◌∷◌, length, map, sum_by, All, IfOk};
+ghost use Rattle.std.specs.Prelude.{◌≡◌, ◌+◌, ◌*◌, ◌<◌, ◌≤◌, [], ◌∷◌, length, map, sum_by, All, IfOk};
 ghost use Rattle.event_model.specs.Part.{has};
 ghost use Rattle.trace_base.specs.Flat.{calls_in, flat, greatest_function, row_of, stands, time_with};
 ghost use Rattle.trace_base.specs.Stream.{IsLegal};
+ghost use Rattle.trace_base.specs.declared.limits.TheConstants.{MAX_TIME, MAX_TRACKS};
 
 use crate::part::Part;
 use crate::pass::{calls_of, greatest_in, time_in};
@@ -18,7 +19,7 @@ fn time_over(
     b: u64,
 ) -> Result<u128, Memory>
     requires legal { All (λ s. IsLegal s.now) streams.now }
-    requires few { length streams.now ≤ 4096 }
+    requires few { length streams.now ≤ MAX_TRACKS }
     ensures { IfOk result (λ t. t ≡ sum_by (time_with (has part.entry) a b) (map (λ s. s.now) streams.now)) }
 {
     let mut total = 0u128;
@@ -31,7 +32,7 @@ fn time_over(
 /// The calls of the function that begin within [a, b), over the streams.
 fn calls_over(streams: &[&TrackStream], f: u32, a: u64, b: u64) -> u64
     requires legal { All (λ s. IsLegal s.now) streams.now }
-    requires few { length streams.now ≤ 4096 }
+    requires few { length streams.now ≤ MAX_TRACKS }
     ensures { result ≡ sum_by (calls_in f a b) (map (λ s. s.now) streams.now) }
 {
     let mut calls = 0;
@@ -57,7 +58,7 @@ fn greatest_over(streams: &[&TrackStream]) -> u32
 #[tactic(auto, unfolding(trace_base::specs::Flat::row_of))]
 fn row(alloc: Global, streams: &[&TrackStream], a: u64, b: u64, f: u32) -> Result<Row, Memory>
     requires legal { All (λ s. IsLegal s.now) streams.now }
-    requires few { length streams.now ≤ 4096 }
+    requires few { length streams.now ≤ MAX_TRACKS }
     ensures { IfOk result (λ r. r ≡ row_of (map (λ s. s.now) streams.now) a b f) }
 {
     Ok(Row {
@@ -86,9 +87,9 @@ pub fn flat_of_all(
     b: u64,
 ) -> Result<Profile, Memory>
     requires legal { All (λ s. IsLegal s.now) streams.now }
-    requires few { length streams.now ≤ 4096 }
+    requires few { length streams.now ≤ MAX_TRACKS }
     requires below { a < b }
-    requires limit { b ≤ 2 ^ 62 }
+    requires limit { b ≤ MAX_TIME }
     ensures { IfOk result (λ p. p ≡ flat (map (λ s. s.now) streams.now) a b) }
 {
     let mut rows = Seq::new(alloc);
@@ -106,7 +107,7 @@ pub fn flat_of_all(
 pub fn flat_of(alloc: Global, s: &TrackStream, a: u64, b: u64) -> Result<Profile, Memory>
     requires legal { IsLegal s.now }
     requires below { a < b }
-    requires limit { b ≤ 2 ^ 62 }
+    requires limit { b ≤ MAX_TIME }
     ensures { IfOk result (λ p. p ≡ flat (s.now ∷ []) a b) }
 {
     flat_of_all(alloc, &[s], a, b)

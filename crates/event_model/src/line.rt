@@ -1,8 +1,9 @@
 //! The timeline: the busiest function of each pixel.
-ghost use Rattle.std.specs.Prelude.{◌≡◌, ◌+◌, ◌-◌, ◌^◌, ◌<◌, ◌≤◌, ◌==◌, ◌&&◌, nat_lt, find, IfOk};
+ghost use Rattle.std.specs.Prelude.{◌≡◌, ◌+◌, ◌-◌, ◌<◌, ◌≤◌, ◌==◌, ◌&&◌, nat_lt, find, IfOk};
 ghost use Rattle.std.specs.Option.{option_copied};
 ghost use Rattle.trace_base.specs.Stream.{IsLegal};
 ghost use Rattle.trace_base.specs.Timeline.{busiest, greatest_excl, pixel_start, timeline};
+ghost use Rattle.trace_base.specs.declared.limits.TheConstants.{MAX_PIXELS, MAX_TIME};
 
 use crate::flat::flat_of;
 use std::alloc::Global;
@@ -11,7 +12,7 @@ use trace_base::{Memory, Profile, Row, Seq, TrackStream};
 /// The time at which pixel i begins, counted from 0, where [a, b) has px of them. For i = px it is b.
 fn start_of_pixel(a: u64, b: u64, px: u32, i: u32) -> u64
     requires below { a < b }
-    requires limit { b ≤ 2 ^ 62 }
+    requires limit { b ≤ MAX_TIME }
     requires some { 1 ≤ px }
     requires within { i ≤ px }
     ensures exact { result ≡ pixel_start a b px i }
@@ -56,9 +57,9 @@ fn busiest_of(profile: &Profile) -> u32
 pub fn line_of(alloc: Global, s: &TrackStream, a: u64, b: u64, px: u32) -> Result<Seq<u32>, Memory>
     requires legal { IsLegal s.now }
     requires below { a < b }
-    requires limit { b ≤ 2 ^ 62 }
+    requires limit { b ≤ MAX_TIME }
     requires some { 1 ≤ px }
-    requires pixels { px ≤ 4096 }
+    requires pixels { px ≤ MAX_PIXELS }
     requires fine { px ≤ b - a }
     ensures { IfOk result (λ cells. cells ≡ timeline s.now a b px) }
 {

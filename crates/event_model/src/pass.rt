@@ -1,10 +1,11 @@
 //! One pass over the events of one stream.
-ghost use Rattle.std.specs.Prelude.{◌≡◌, ◌+◌, ◌-◌, ◌^◌, ◌≤◌, min, max, fold, count_by, IfOk, OnOk};
+ghost use Rattle.std.specs.Prelude.{◌≡◌, ◌+◌, ◌-◌, ◌≤◌, min, max, fold, count_by, IfOk, OnOk};
 ghost use Rattle.std.specs.Prelude.{if◌then◌else◌, ◌&&◌};
 ghost use Rattle.event_model.specs.Part.{has};
 ghost use Rattle.trace_base.specs.Flat.{calls_in, enters_in, function_of, is_within, time_with};
 ghost use Rattle.trace_base.specs.Paths.{calls_making};
 ghost use Rattle.trace_base.specs.Stream.{time_of, is_enter, stack_step, IsLegal};
+ghost use Rattle.trace_base.specs.declared.limits.TheConstants.{MAX_STATE_EVENTS, MAX_TIME};
 
 use crate::part::{Part, runs};
 use std::alloc::Global;
@@ -71,7 +72,7 @@ pub fn time_in(
 ) -> Result<u64, Memory>
     requires { IsLegal s.now }
     ensures exact { IfOk result (λ t. t ≡ time_with (has part.entry) a b s.now) }
-    ensures within_limit { IfOk result (λ t. t ≤ 2 ^ 62) }
+    ensures within_limit { IfOk result (λ t. t ≤ MAX_TIME) }
 {
     let mut stack = Vec::new(alloc);
     let mut from = s.start;
@@ -101,7 +102,7 @@ fn enters(event: Event, f: u32, a: u64, b: u64) -> bool
 pub fn calls_of(s: &TrackStream, f: u32, a: u64, b: u64) -> u64
     requires { IsLegal s.now }
     ensures exact { result ≡ calls_in f a b s.now }
-    ensures within_limit { result ≤ 4194304 }
+    ensures within_limit { result ≤ MAX_STATE_EVENTS }
 {
     let mut calls = 0;
     for event in s.events.as_slice() {

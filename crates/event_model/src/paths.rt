@@ -1,8 +1,9 @@
 //! The call-tree profile: a row for each call path, in depth-first order.
-ghost use Rattle.std.specs.Prelude.{◌≡◌, ◌^◌, ◌<◌, ◌≤◌, [], ◌∷◌, map, All, IfOk};
+ghost use Rattle.std.specs.Prelude.{◌≡◌, ◌<◌, ◌≤◌, [], ◌∷◌, map, All, IfOk};
 ghost use Rattle.event_model.specs.PathRows.{rows_told, IsOfOpenCalls};
 ghost use Rattle.trace_base.specs.Paths.{call_paths, path_row, path_stands, paths};
 ghost use Rattle.trace_base.specs.Stream.{IsLegal};
+ghost use Rattle.trace_base.specs.declared.limits.TheConstants.{MAX_TIME};
 
 use crate::part::Part;
 use crate::pass::{calls_into, step, time_in};
@@ -82,7 +83,7 @@ fn rows_of(
 pub fn paths_of(alloc: Global, s: &TrackStream, a: u64, b: u64) -> Result<PathProfile, Memory>
     requires legal { IsLegal s.now }
     requires below { a < b }
-    requires limit { b ≤ 2 ^ 62 }
+    requires limit { b ≤ MAX_TIME }
     ensures { IfOk result (λ p. p ≡ paths (s.now ∷ []) a b) }
 {
     let paths = call_paths_of(alloc, s)?;

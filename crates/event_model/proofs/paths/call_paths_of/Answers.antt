@@ -17,7 +17,7 @@ loop-event-init c = HasPaths-none c.args.s.now c.new-stack.result.items c.new-pa
 pub loop-event-preserved : goal.loop-event-preserved
 loop-event-preserved c =
     let stack : c.step.new.stack.items ≡ stack_after
-        (take (c.loop-event.event-index + 1) c.args.s.now.events) =
+    (take (c.loop-event.event-index + 1) c.args.s.now.events) =
     stack-read c.args.s.now.events c.as_slice-event-items.result.now c.loop-event.event-index
     (Enter 0 0) c.loop-event.stack.items c.step.new.stack.items c.as_slice-event-items.ensures
     c.loop-event-test.true c.loop-event.invariant.stack c.in_ok-step.ensures in
