@@ -171,7 +171,7 @@ path_to : (streams : List TrackStream) (path : List ℕ) → IsPathOf streams pa
 path_to streams path h = filter-keeps (λ stack. not (is_bare stack)) (flat_map call_stacks streams) path
     (flat_map-keeps call_stacks streams h.stream path h.has
     (call_stacks-keeps h.stream path (reached h.stream.events path h.some h.events h.calls h.within
-        h.begins)))
+    h.begins)))
     (not_bare path h.some)
 
 pub call_paths-rising : (streams : List TrackStream)

@@ -11,6 +11,6 @@ distinct_in_order cmp xs = fold (insert_key cmp) [] xs
 
 -- the list rises strictly in the order, and has exactly the items of which the fact holds
 pub record IsRisingListOf {K : Type 0} (cmp : K → K → Ordering) (Has : K → Type 0) (xs : List K) : Type 0
-    where
-  pub rises : IsStrictlySortedBy cmp xs
-  pub exact : (x : K) → Contains xs x ↔ Has x
+  where
+    pub rises : IsStrictlySortedBy cmp xs
+    pub exact : (x : K) → Contains xs x ↔ Has x

@@ -19,7 +19,7 @@ use Rattle.request_reader.specs.Requests.{Line}
 use Rattle.trace_session.specs.Replies.{flat_reply, profile_reply, streams_of, functions_of}
 use Rattle.trace_session.specs.Served.{IsAnswered, standing, spent_number}
 use Rattle.trace_session.specs.Serving.{Serves, RecordsReply}
-use Rattle.trace_session.specs.State.{Store}
+use Rattle.trace_session.specs.State.{Backend}
 use Rattle.trace_session.proofs.Grow.{Grows-one, Grows-still}
 use Rattle.trace_session.proofs.Loading.{Becomes-one}
 use Rattle.trace_session.proofs.Opening.{records_none, Serves-still, had_places, used_up_still}
@@ -36,7 +36,7 @@ no_number r old new told is = subst
     (records_none old new told)
 
 -- the trace isn't open
-pub Serves-unknown : (alone : Bool) (old new : Store) (id a b unknown place : ℕ) → IsAtRest old.seat
+pub Serves-unknown : (alone : Bool) (old new : Backend) (id a b unknown place : ℕ) → IsAtRest old.seat
     → TellsUnknown alone old.seat new.seat (One id) unknown place → RecordsNone old.used_up new.used_up
     → Serves alone old new (Line (Flat id All a b)) (reply.No (no.Unknown unknown place))
 unfolding flat_reply
@@ -59,7 +59,7 @@ Serves-unknown alone old new id a b unknown place rest m none =
     }
 
 -- no place was left
-pub Serves-no_place : (alone : Bool) (old new : Store) (id a b n : ℕ) → IsAtRest old.seat
+pub Serves-no_place : (alone : Bool) (old new : Backend) (id a b n : ℕ) → IsAtRest old.seat
     → TellsUsedUp alone old.seat new.seat 1 n → RecordsUsedUp old.used_up new.used_up n
     → Serves alone old new (Line (Flat id All a b)) (reply.No (no.Spent n))
 Serves-no_place alone old new id a b n rest m told =
@@ -72,7 +72,7 @@ seen_profile seen place id a b = profile_reply (length (streams_of seen id)) (fu
     (flat (streams_of seen id) a b)
 
 -- what a pin saw is the reply, or there was no memory
-pub Serves-seen : (alone : Bool) (old new : Store) (mid : Seat) (id a b : ℕ) (pin : Pin) (r : Reply)
+pub Serves-seen : (alone : Bool) (old new : Backend) (mid : Seat) (id a b : ℕ) (pin : Pin) (r : Reply)
     → IsAtRest old.seat → PinsTraces alone old.seat mid (One id) pin
     → Removes mid.pins new.seat.pins (pin_view pin) → new.seat.passes ≡ mid.passes
     → MakesNoEntry mid new.seat → RecordsNone old.used_up new.used_up

@@ -17,7 +17,7 @@ use Rattle.trace_session.specs.Output.{WritesFront}
 use Rattle.trace_session.specs.Served.{Served}
 use Rattle.trace_session.specs.Session.{IsSession, ReadsRequests, WritesReplies, Answers, LeavesNothing}
 use Rattle.trace_session.specs.Session.{requests_served}
-use Rattle.trace_session.specs.State.{Store, SessionState}
+use Rattle.trace_session.specs.State.{Backend, SessionState}
 use Rattle.trace_session.specs.Step.{Steps, TakesOne, TakesNone}
 use Rattle.trace_session.specs.declared.sessions.End.{End}
 use Rattle.trace_session.specs.declared.sessions.End.TheVariants as ends
@@ -53,10 +53,10 @@ taken_then served Q a b c =
     ))
 
 -- what was done stays done where nothing more is
-done_still : (alone : Bool) (old now new : Store) (served : List Served) → new ≡ now
+done_still : (alone : Bool) (old now new : Backend) (served : List Served) → new ≡ now
     → Done alone old now served
     → Done alone old new served
-done_still alone old now new served same d = subst (λ (n : Store). Done alone old n served) (sym same) d
+done_still alone old now new served same d = subst (λ (n : Backend). Done alone old n served) (sym same) d
 
 -- the source ended or failed, and nothing waits; `src` is what the source has left
 ended : (end : End) (Q : List ℕ → List ℕ → Type 0) (alone : Bool) (old now new : SessionState)
@@ -66,9 +66,9 @@ ended : (end : End) (Q : List ℕ → List ℕ → Type 0) (alone : Bool) (old n
     → Q bytes is → Answers end (requests_of (given ++ bytes)) s.served)
     → ((bytes is : List ℕ) → Q bytes is → LeavesNothing end is)
     → ((was is : List ℕ) → HasWritten s.served was is → WritesReplies end was is s.served)
-    → IsLegalHistory new.store.seat.seen → IsSession alone old (record new { left = src }) end
+    → IsLegalHistory new.backend.seat.seen → IsSession alone old (record new { left = src }) end
 ended end Q alone old now new src pending lies s t none answers leaves writes legal =
-    let d = done_still alone old.store now.store new.store s.served t.store s.done in
+    let d = done_still alone old.backend now.backend new.backend s.served t.backend s.done in
     let out = subst (λ (h : Option (List ℕ)). Told old.held h (HasWritten s.served)) (sym t.held) s.output in
     let is_left : new.left ≡ left_to_read [] src = lies ∙ ap (λ (p : List ℕ). left_to_read p src) none in
     let took = subst (λ (l : Option (List ℕ)). Told now.left l (λ was is. (bytes : List ℕ)
@@ -152,14 +152,15 @@ one_ended : (end : End) (alone : Bool) (old now new : SessionState) (src : Optio
     → (t : TakesOne alone now new (Some end))
     → ((given bytes : List ℕ) → Spell given (requests_served s.served) → Spells bytes t.request
     → Answers end (requests_of (given ++ bytes ++ pending))
-    (one_more s.served t.request (length now.store.seat.seen) t.answers.serves.block t.answers.reply))
+    (one_more s.served t.request (length now.backend.seat.seen) t.answers.serves.block t.answers.reply))
     → ((is : List ℕ) → LeavesNothing end is)
     → Told old.held new.held (λ was is. WritesReplies end was is
-    (one_more s.served t.request (length now.store.seat.seen) t.answers.serves.block t.answers.reply))
-    → IsLegalHistory new.store.seat.seen → IsSession alone old (record new { left = src }) end
+    (one_more s.served t.request (length now.backend.seat.seen) t.answers.serves.block t.answers.reply))
+    → IsLegalHistory new.backend.seat.seen → IsSession alone old (record new { left = src }) end
 one_ended end alone old now new src pending lies s t answers leaves writes legal =
-    let x = one_more s.served t.request (length now.store.seat.seen) t.answers.serves.block t.answers.reply in
-    let d = done_more alone old.store now.store new.store s.served t.request t.answers.reply s.done
+    let x = one_more s.served t.request (length now.backend.seat.seen) t.answers.serves.block t.answers.reply
+    in
+    let d = done_more alone old.backend now.backend new.backend s.served t.request t.answers.reply s.done
     t.answers.serves in
     let took = subst (λ (l : Option (List ℕ)). Takes now.left l (λ bytes. Spells bytes t.request)) lies
     t.taken
@@ -236,22 +237,22 @@ fault_writes served request before block r a b c =
 -- a step that ends the session; `src` is what the source has left
 pub step_ends : (end : End) (alone : Bool) (old now new : SessionState) (src : Option (List ℕ))
     (pending : List ℕ) → new.left ≡ left_to_read pending src → Sofar alone old now
-    → Steps alone now new pending (Some end) → IsLegalHistory new.store.seat.seen
+    → Steps alone now new pending (Some end) → IsLegalHistory new.backend.seat.seen
     → IsSession alone old (record new { left = src }) end
 step_ends ends.Quit alone old now new src pending lies s t legal =
     one_ended ends.Quit alone old now new src pending lies s t
-    (λ given bytes. quit_answers s.served t.request (length now.store.seat.seen) t.answers.serves.block
+    (λ given bytes. quit_answers s.served t.request (length now.backend.seat.seen) t.answers.serves.block
     t.answers.reply given bytes pending t.answers.ends)
     (λ is. tt)
-    (written_more s.served t.request (length now.store.seat.seen) t.answers.serves.block t.answers.reply
+    (written_more s.served t.request (length now.backend.seat.seen) t.answers.serves.block t.answers.reply
     old.held
     now.held new.held s.output t.answers.written) legal
 step_ends ends.WriteFault alone old now new src pending lies s t legal =
     one_ended ends.WriteFault alone old now new src pending lies s t
-    (λ given bytes. fault_answers s.served t.request (length now.store.seat.seen) t.answers.serves.block
+    (λ given bytes. fault_answers s.served t.request (length now.backend.seat.seen) t.answers.serves.block
     t.answers.reply given bytes pending)
     (λ is. tt)
-    (fault_writes s.served t.request (length now.store.seat.seen) t.answers.serves.block t.answers.reply
+    (fault_writes s.served t.request (length now.backend.seat.seen) t.answers.serves.block t.answers.reply
     old.held
     now.held new.held s.output t.answers.written) legal
 step_ends ends.Eof alone old now new src pending lies s t legal =

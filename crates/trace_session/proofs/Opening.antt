@@ -27,7 +27,7 @@ use Rattle.trace_session.specs.Served.{IsAnswered, standing, HasPlaces, IsUsedUp
 use Rattle.trace_session.specs.Served.{load_entries}
 use Rattle.trace_session.specs.Served.{dropped_entries, last_place}
 use Rattle.trace_session.specs.Serving.{Serves, Grows, RecordsReply}
-use Rattle.trace_session.specs.State.{Store}
+use Rattle.trace_session.specs.State.{Backend}
 use Rattle.trace_session.proofs.Grow.{grows_none, Grows-one, Grows-trans, last_place-push}
 
 -- a hall that recorded nothing, and a reply that tells no number
@@ -52,7 +52,7 @@ had_places alone old new n place seen b room =
     subst (λ (h : List Entry). OnTrue alone (HasRoom h n)) (sym (seen_before old new b)) room
 
 -- nothing happened
-pub Serves-still : (alone : Bool) (old new : Store) (request : WholeRequest) (r : Reply)
+pub Serves-still : (alone : Bool) (old new : Backend) (request : WholeRequest) (r : Reply)
     → new.seat ≡ old.seat → IsAtRest old.seat
     → IsAnswered (standing alone old.seat.seen (length old.seat.seen) []) request r []
     → RecordsReply old.used_up new.used_up r → Serves alone old new request r
@@ -76,7 +76,7 @@ used_up_still alone old new n p m = (
 )
 
 -- the most traces were open
-pub Serves-full : (alone : Bool) (old new : Store) (text : List ℕ) (t : TraceText) (place : ℕ)
+pub Serves-full : (alone : Bool) (old new : Backend) (text : List ℕ) (t : TraceText) (place : ℕ)
     → small_form text ≡ Some t → IsAtRest old.seat
     → TellsFull alone old.seat new.seat (small_info_of t) place → RecordsNone old.used_up new.used_up
     → Serves alone old new (Load text) (reply.No (no.Full place))
@@ -102,7 +102,7 @@ Serves-full alone old new text t place form rest m none =
     }
 
 -- the trace was opened and sealed
-pub Serves-opened : (alone : Bool) (old new : Store) (mid : Seat) (text : List ℕ) (t : TraceText)
+pub Serves-opened : (alone : Bool) (old new : Backend) (mid : Seat) (text : List ℕ) (t : TraceText)
     (pass : LoadPass) (place : ℕ) → small_form text ≡ Some t
     → OpensTrace alone old.seat mid (small_info_of t) pass
     → PublishesAll alone mid new.seat pass.id t.tracks place → RecordsNone old.used_up new.used_up
@@ -132,7 +132,7 @@ Serves-opened alone old new mid text t pass place form m p none =
     }
 
 -- the load was given up
-pub Serves-dropped : (alone : Bool) (old new : Store) (mid : Seat) (text : List ℕ) (t : TraceText)
+pub Serves-dropped : (alone : Bool) (old new : Backend) (mid : Seat) (text : List ℕ) (t : TraceText)
     (pass : LoadPass) → small_form text ≡ Some t → OpensTrace alone old.seat mid (small_info_of t) pass
     → GivesUp alone mid new.seat pass.id t.tracks → RecordsNone old.used_up new.used_up
     → Serves alone old new (Load text) (reply.No no.Memory)
@@ -141,7 +141,8 @@ Serves-dropped alone old new mid text t pass form m p none =
     record {
       block = pass.place ∷ p.block;
       entries = dropped_entries pass.id t p.count;
-      grows = Grows-trans alone old.seat mid new.seat (pass.place ∷ []) p.block (Opened pass.id (small_info_of t)
+      grows = Grows-trans alone old.seat mid new.seat (pass.place ∷ []) p.block
+          (Opened pass.id (small_info_of t)
           ∷ [])
           (published_from pass.id 0 (take p.count t.tracks) ++ Dropped pass.id ∷ []) opened p.grows;
       answered = inr (pass.id, p.count, t, form, refl);
@@ -150,12 +151,12 @@ Serves-dropped alone old new mid text t pass form m p none =
     }
 
 -- the text isn't in the small form, or there was no memory to read it
-pub put_unbuilt : (alone : Bool) (s : Store) (text : List ℕ) → IsAtRest s.seat → small_form text ≡ None
+pub put_unbuilt : (alone : Bool) (s : Backend) (text : List ℕ) → IsAtRest s.seat → small_form text ≡ None
     → Serves alone s s (Load text) (reply.No no.Unbuilt)
 put_unbuilt alone s text rest form = Serves-still alone s s (Load text) (reply.No no.Unbuilt) refl rest
     (form, refl) (records_none s.used_up s.used_up refl)
 
-pub put_memory : (alone : Bool) (s : Store) (text : List ℕ) → IsAtRest s.seat
+pub put_memory : (alone : Bool) (s : Backend) (text : List ℕ) → IsAtRest s.seat
     → Serves alone s s (Load text) (reply.No no.Memory)
 put_memory alone s text rest = Serves-still alone s s (Load text) (reply.No no.Memory) refl rest (inl refl)
     (records_none s.used_up s.used_up refl)
@@ -167,7 +168,7 @@ refusal (fault.Spent n) = reply.No (no.Spent n)
 refusal (fault.Full place) = reply.No (no.Full place)
 
 -- the trace wasn't let in
-refused_by : (alone : Bool) (old new : Store) (text : List ℕ) (t : TraceText) (f : HallFault)
+refused_by : (alone : Bool) (old new : Backend) (text : List ℕ) (t : TraceText) (f : HallFault)
     → small_form text ≡ Some t → IsAtRest old.seat → Admits alone old.seat new.seat (small_info_of t) (Err f)
     → AdmitRecords old.used_up new.used_up (Err f) → Serves alone old new (Load text) (refusal f)
 refused_by alone old new text t fault.Memory form rest m told =
@@ -179,7 +180,7 @@ refused_by alone old new text t (fault.Spent n) form rest m told =
 refused_by alone old new text t (fault.Full place) form rest m told =
     Serves-full alone old new text t place form rest m told
 
-pub Serves-refused : (alone : Bool) (old new : Store) (text : List ℕ) (t : TraceText) (info : TraceInfo)
+pub Serves-refused : (alone : Bool) (old new : Backend) (text : List ℕ) (t : TraceText) (info : TraceInfo)
     (r : Result LoadPass HallFault) (f : HallFault) → small_form text ≡ Some t → IsAtRest old.seat
     → info ≡ small_info_of t → r ≡ Err f → Admits alone old.seat new.seat info r
     → AdmitRecords old.used_up new.used_up r → Serves alone old new (Load text) (refusal f)

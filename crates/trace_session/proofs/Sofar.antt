@@ -19,7 +19,7 @@ use Rattle.request_reader.specs.Requests.{requests_of, onto}
 use Rattle.trace_session.specs.Served.{Served, IsServed, blocks_of, output_of, spent_numbers, spent_number}
 use Rattle.trace_session.specs.Serving.{Serves}
 use Rattle.trace_session.specs.Session.{ComeInOrder, requests_served}
-use Rattle.trace_session.specs.State.{Store, SessionState}
+use Rattle.trace_session.specs.State.{Backend, SessionState}
 use Rattle.trace_session.specs.Step.{TakesOne}
 use Rattle.trace_session.proofs.Grow.{Begins-trans, AreAt-length, OnTrue-all, OnTrue-both}
 use Rattle.trace_session.proofs.Later.{all_later, all_push}
@@ -27,7 +27,7 @@ use Rattle.trace_session.proofs.Rising.{ComeInOrder-push}
 use Rattle.trace_session.proofs.Telling.{told_then, told_same}
 
 -- what was served, apart from what was read and written
-pub record Done (alone : Bool) (old now : Store) (served : List Served) : Type 0 where
+pub record Done (alone : Bool) (old now : Backend) (served : List Served) : Type 0 where
   pub each : AllByRecursion (IsServed alone now.seat.seen) served
   pub seen : Begins old.seat.seen now.seat.seen
   pub order : ComeInOrder (length old.seat.seen) served (length now.seat.seen)
@@ -54,7 +54,7 @@ HasWritten served was is = is ≡ was ++ output_of served
 -- these requests were served, and all of their replies written
 pub record Sofar (alone : Bool) (old now : SessionState) : Type 0 where
   pub served : List Served
-  pub done : Done alone old.store now.store served
+  pub done : Done alone old.backend now.backend served
   pub input : Told old.left now.left (HasRead served)
   pub output : Told old.held now.held (HasWritten served)
 
@@ -75,7 +75,7 @@ numbers_more served request before block r =
     ((record { request = request; before = before; block = block; reply = r }) ∷ [])
     ∙ ap (λ (l : List ℕ). spent_numbers served ++ l) (one_number r (spent_number r) refl)
 
-pub done_more : (alone : Bool) (old now new : Store) (served : List Served) (request : WholeRequest)
+pub done_more : (alone : Bool) (old now new : Backend) (served : List Served) (request : WholeRequest)
     (r : Reply)
     → Done alone old now served → (s : Serves alone now new request r)
     → Done alone old new (one_more served request (length now.seat.seen) s.block r)
@@ -177,11 +177,11 @@ pub sofar_more : (alone : Bool) (old now new : SessionState) → Sofar alone old
     → TakesOne alone now new None
     → Sofar alone old new
 sofar_more alone old now new s t =
-    let before = length now.store.seat.seen in
+    let before = length now.backend.seat.seen in
     let block = t.answers.serves.block in
     record {
       served = one_more s.served t.request before block t.answers.reply;
-      done = done_more alone old.store now.store new.store s.served t.request t.answers.reply s.done
+      done = done_more alone old.backend now.backend new.backend s.served t.request t.answers.reply s.done
           t.answers.serves;
       input = read_more s.served t.request before block t.answers.reply old.left now.left new.left
           t.answers.ends s.input t.taken;
@@ -191,18 +191,18 @@ sofar_more alone old now new s t =
     }
 
 -- a session that begins
-pub sofar_none : (alone : Bool) (s : SessionState) → IsAtRest s.store.seat
+pub sofar_none : (alone : Bool) (s : SessionState) → IsAtRest s.backend.seat
     → Sofar alone s (record s { left = left_to_read [] s.left })
 sofar_none alone s rest = record {
   served = [];
   done = record {
     each = tt;
-    seen = ([], sym (append-nil s.store.seat.seen));
+    seen = ([], sym (append-nil s.backend.seat.seen));
     order = refl;
-    places = sym (append-nil s.store.seat.places);
+    places = sym (append-nil s.backend.seat.places);
     lone = OnTrue-all alone (omega arith);
     rest = rest;
-    records = told_same (λ was is. is ≡ was ++ []) s.store.used_up s.store.used_up
+    records = told_same (λ was is. is ≡ was ++ []) s.backend.used_up s.backend.used_up
         (λ x. sym (append-nil x)) refl;
   };
   input = told_same (HasRead []) s.left (left_to_read [] s.left) (λ x. ([], refl, λ more. refl))

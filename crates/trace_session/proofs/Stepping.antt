@@ -25,7 +25,7 @@ use Rattle.trace_session.proofs.Telling.{Serves-untold, told_as}
 -- the reply that is told was served, and its text written
 answered_one : (alone : Bool) (old new : SessionState) (request : WholeRequest) (result : Option End)
     (r : Reply)
-    (bytes : List ℕ) → Serves alone old.store new.store request r → IsTold r bytes
+    (bytes : List ℕ) → Serves alone old.backend new.backend request r → IsTold r bytes
     → Told old.held new.held (λ was now. WritesText result bytes was now) → EndsBehind request result
     → AnswersOne alone old new request result
 answered_one alone old new request result r bytes s (inl text) w e = record {
@@ -36,7 +36,7 @@ answered_one alone old new request result r bytes s (inl text) w e = record {
 }
 answered_one alone old new request result r bytes s (inr untold) w e = record {
   reply = reply.No no.Memory;
-  serves = Serves-untold alone old.store new.store request r untold.0 s;
+  serves = Serves-untold alone old.backend new.backend request r untold.0 s;
   written = subst (λ (b : List ℕ). Told old.held new.held (λ was now. WritesText result b was now)) untold.1
       w;
   ends = e;
@@ -81,7 +81,7 @@ all_text i (Some end) bytes was now e w = absurd e
 pub answered_all : (alone : Bool) (old new : SessionState) (i : Incoming) (text : List ℕ)
     (request : WholeRequest)
     (result : Option End) (r : Reply) (bytes : List ℕ) → Is i text request → EndsWith i result
-    → Serves alone old.store new.store request r → IsTold r bytes
+    → Serves alone old.backend new.backend request r → IsTold r bytes
     → Told old.held new.held (λ was now. now ≡ was ++ bytes) → AnswersOne alone old new request result
 answered_all alone old new i text request result r bytes is e s told w =
     answered_one alone old new request result r bytes s told
@@ -91,7 +91,7 @@ answered_all alone old new i text request result r bytes is e s told w =
 
 -- and the sink failed
 pub answered_front : (alone : Bool) (old new : SessionState) (request : WholeRequest) (r : Reply)
-    (bytes : List ℕ) → Serves alone old.store new.store request r → IsTold r bytes
+    (bytes : List ℕ) → Serves alone old.backend new.backend request r → IsTold r bytes
     → Told old.held new.held (WritesFront bytes) → AnswersOne alone old new request (Some ends.WriteFault)
 answered_front alone old new request r bytes s told w =
     answered_one alone old new request (Some ends.WriteFault) r bytes s told w tt
@@ -157,11 +157,11 @@ fault_none left left' t = told_as (λ was now. (bytes : List ℕ) × (was ≡ by
 
 -- nothing came
 pub ended_early : (alone : Bool) (old new : SessionState) (pending text : List ℕ) (end : InputEnd)
-    → Comes old.left new.left text (Err end) → pending ≡ [] → new.store ≡ old.store → new.held ≡ old.held
+    → Comes old.left new.left text (Err end) → pending ≡ [] → new.backend ≡ old.backend → new.held ≡ old.held
     → Steps alone old new pending (Some (end_at end))
-ended_early alone old new pending text inputs.End comes none store held =
-    (record { store = store; held = held; taken = eof_none old.left new.left comes }, none)
-ended_early alone old new pending text inputs.Cut comes none store held =
-    (record { store = store; held = held; taken = cut_none old.left new.left comes.0 comes.1 }, none)
-ended_early alone old new pending text inputs.Failed comes none store held =
-    (record { store = store; held = held; taken = fault_none old.left new.left comes }, none)
+ended_early alone old new pending text inputs.End comes none backend held =
+    (record { backend = backend; held = held; taken = eof_none old.left new.left comes }, none)
+ended_early alone old new pending text inputs.Cut comes none backend held =
+    (record { backend = backend; held = held; taken = cut_none old.left new.left comes.0 comes.1 }, none)
+ended_early alone old new pending text inputs.Failed comes none backend held =
+    (record { backend = backend; held = held; taken = fault_none old.left new.left comes }, none)

@@ -13,7 +13,7 @@ use Rattle.session_proto.specs.declared.request.Sel.TheVariants.{All}
 use Rattle.request_reader.specs.Requests.{WholeRequest, Line}
 use Rattle.trace_session.specs.Served.{Standing, standing, IsAnswered, spent_number}
 use Rattle.trace_session.specs.Serving.{Serves}
-use Rattle.trace_session.specs.State.{Store}
+use Rattle.trace_session.specs.State.{Backend}
 
 -- two calls in turn
 pub told_then : {X : Type 0} (P Q R : X → X → Type 0) (a b c : Option X)
@@ -64,7 +64,7 @@ long_number reply.Quit long = absurd (cc)
 long_number (reply.No n) long = absurd (cc)
 
 -- a profile is told as want of memory
-pub Serves-untold : (alone : Bool) (old new : Store) (request : WholeRequest) (r : Reply)
+pub Serves-untold : (alone : Bool) (old new : Backend) (request : WholeRequest) (r : Reply)
     → is_short r ≡ false → Serves alone old new request r → Serves alone old new request (reply.No no.Memory)
 Serves-untold alone old new request r long s = record {
   block = s.block;

@@ -2,7 +2,7 @@
 use Rattle.std.specs.Prelude.{◌≡◌, ℕ, true, List, [], codes, Option, None}
 use Rattle.hall_trait.specs.Seat.{Seat}
 use Rattle.trace_session.specs.Session.{IsSession}
-use Rattle.trace_session.specs.State.{Store}
+use Rattle.trace_session.specs.State.{Backend}
 use Rattle.trace_session.specs.declared.sessions.End.{End}
 use Rattle.trace_session.specs.declared.sessions.End.TheVariants as ends
 
@@ -23,13 +23,13 @@ status_of ends.ReadFault = 3
 status_of ends.WriteFault = 3
 
 -- what a new hall serves from
-abbrev pub new_store : Store
-new_store = record { seat = new_seat; used_up = None }
+abbrev pub new_backend : Backend
+new_backend = record { seat = new_seat; used_up = None }
 
 -- One session over a new hall that no one else acts in, and the status of its end.
 abbrev pub RunsBatch : Option (List ℕ) → Option (List ℕ) → Option (List ℕ) → Option (List ℕ) → ℕ → Type 0
 RunsBatch left left' held held' status =
-    (end : End) × (store : Store)
-    × IsSession true (record { store = new_store; left = left; held = held })
-    (record { store = store; left = left'; held = held' }) end
+    (end : End) × (backend : Backend)
+    × IsSession true (record { backend = new_backend; left = left; held = held })
+    (record { backend = backend; left = left'; held = held' }) end
     × (status ≡ status_of end)

@@ -36,7 +36,8 @@ load_entries id t = Opened id (small_info_of t) ∷ published_from id 0 t.tracks
 
 -- those of a load that was given up behind n tracks
 abbrev pub dropped_entries : ℕ → TraceText → ℕ → List Entry
-dropped_entries id t n = Opened id (small_info_of t) ∷ published_from id 0 (take n t.tracks) ++ Dropped id ∷ []
+dropped_entries id t n = Opened id (small_info_of t) ∷ published_from id 0 (take n t.tracks) ++ Dropped id
+    ∷ []
 
 -- the block has these entries at its places
 abbrev pub AreAt : List Entry → List ℕ → List Entry → Type 0
@@ -92,7 +93,8 @@ IsAnswered s (Load text) (reply.No (no.Full place)) entries =
     × (length (open_ids s.seen) ≡ MAX_OPEN_TRACES) × HasPlaces s (places_of_load (small_info_of t))
 -- or the places are used up
 IsAnswered s (Load text) (reply.No (no.Spent p)) entries =
-    (t : TraceText) × (small_form text ≡ Some t) × (entries ≡ []) × IsUsedUp s (places_of_load (small_info_of t)) p
+    (t : TraceText) × (small_form text ≡ Some t) × (entries ≡ [])
+    × IsUsedUp s (places_of_load (small_info_of t)) p
 -- or there was no memory, and what was begun was given up
 IsAnswered s (Load text) (reply.No no.Memory) entries =
     (entries ≡ []) ⊎ ((id n : ℕ) × (t : TraceText) × (small_form text ≡ Some t)

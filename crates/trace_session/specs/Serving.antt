@@ -7,7 +7,7 @@ use Rattle.hall_trait.specs.Seat.{Seat, Begins, IsAtRest}
 use Rattle.session_proto.specs.declared.reply.Reply.{Reply}
 use Rattle.request_reader.specs.Requests.{WholeRequest}
 use Rattle.trace_session.specs.Served.{AreAt, Rise, IsAnswered, standing, spent_number}
-use Rattle.trace_session.specs.State.{Store}
+use Rattle.trace_session.specs.State.{Backend}
 
 -- The seat made these entries, at the places of the block, which rise behind what it had seen, and no others.
 -- A seat that is alone saw no others either.
@@ -23,7 +23,7 @@ abbrev pub RecordsReply : Option (List ℕ) → Option (List ℕ) → Reply → 
 RecordsReply old new reply = Told old new (λ was now. now ≡ was ++ option_to_list (spent_number reply))
 
 -- The request was served with this reply, and the seat is at rest again.
-pub record Serves (alone : Bool) (old new : Store) (request : WholeRequest) (reply : Reply) : Type 0 where
+pub record Serves (alone : Bool) (old new : Backend) (request : WholeRequest) (reply : Reply) : Type 0 where
   pub block : List ℕ
   pub entries : List Entry
   pub grows : Grows alone old.seat new.seat block entries

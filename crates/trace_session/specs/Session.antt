@@ -59,14 +59,14 @@ ComeInOrder n (x ∷ served) m = (x.before ≡ n) × (after : ℕ) × Rise n x.b
 -- entries but those. It is left at rest.
 pub record IsSession (alone : Bool) (old new : SessionState) (end : End) : Type 0 where
   pub served : List Served
-  pub each : AllByRecursion (IsServed alone new.store.seat.seen) served
-  pub seen : Begins old.store.seat.seen new.store.seat.seen
-  pub legal : IsLegalHistory new.store.seat.seen
-  pub order : ComeInOrder (length old.store.seat.seen) served (length new.store.seat.seen)
-  pub places : new.store.seat.places ≡ old.store.seat.places ++ blocks_of served
+  pub each : AllByRecursion (IsServed alone new.backend.seat.seen) served
+  pub seen : Begins old.backend.seat.seen new.backend.seat.seen
+  pub legal : IsLegalHistory new.backend.seat.seen
+  pub order : ComeInOrder (length old.backend.seat.seen) served (length new.backend.seat.seen)
+  pub places : new.backend.seat.places ≡ old.backend.seat.places ++ blocks_of served
   pub lone : OnTrue alone
-      (length new.store.seat.seen ≡ length old.store.seat.seen + length (blocks_of served))
-  pub rest : IsAtRest new.store.seat
-  pub records : Told old.store.used_up new.store.used_up (λ was now. now ≡ was ++ spent_numbers served)
+      (length new.backend.seat.seen ≡ length old.backend.seat.seen + length (blocks_of served))
+  pub rest : IsAtRest new.backend.seat
+  pub records : Told old.backend.used_up new.backend.used_up (λ was now. now ≡ was ++ spent_numbers served)
   pub input : Told old.left new.left (λ was now. ReadsRequests end was now served)
   pub output : Told old.held new.held (λ was now. WritesReplies end was now served)

@@ -4,13 +4,13 @@ use Rattle.hall_trait.specs.Seat.{Seat}
 
 -- What requests are served from: a seat of a hall, and the numbers that the hall told it as used up, where it
 -- tells them.
-pub record Store : Type 0 where
+pub record Backend : Type 0 where
   pub seat : Seat
   pub used_up : Option (List ℕ)
 
 -- What a session works on: what requests are served from, the bytes that are left to read, and those that the
 -- sink holds, where the objects tell them.
 pub record SessionState : Type 0 where
-  pub store : Store
+  pub backend : Backend
   pub left : Option (List ℕ)
   pub held : Option (List ℕ)

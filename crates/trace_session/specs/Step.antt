@@ -32,7 +32,7 @@ EndsBehind request (Some end) = ⊥
 pub record AnswersOne (alone : Bool) (old new : SessionState) (request : WholeRequest) (result : Option End)
     : Type 0 where
   pub reply : Reply
-  pub serves : Serves alone old.store new.store request reply
+  pub serves : Serves alone old.backend new.backend request reply
   pub written : Told old.held new.held (λ was now. WritesText result (reply_text reply) was now)
   pub ends : EndsBehind request result
 
@@ -44,7 +44,7 @@ pub record TakesOne (alone : Bool) (old new : SessionState) (result : Option End
 
 -- Nothing was served, and nothing written: the bytes taken hold no whole request.
 pub record TakesNone (old new : SessionState) (P : List ℕ → List ℕ → Type 0) : Type 0 where
-  pub store : new.store ≡ old.store
+  pub backend : new.backend ≡ old.backend
   pub held : new.held ≡ old.held
   pub taken : Told old.left new.left (λ was now. (bytes : List ℕ) × (was ≡ bytes ++ now)
       × (first_request bytes ≡ None) × P bytes now)

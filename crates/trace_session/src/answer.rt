@@ -32,12 +32,12 @@ pub fn answer<R: Wait, H: Hall, O: Sink>(
     ensures answers { (request : WholeRequest) → Is incoming buf.old.input.text.items request
         → (left : Option (List ℕ)) → AnswersOne H.alone
         (record {
-          store = record { seat = H.seat hall.old; used_up = H.used_up hall.old };
+          backend = record { seat = H.seat hall.old; used_up = H.used_up hall.old };
           left = left;
           held = O.held output.old;
         })
         (record {
-          store = record { seat = H.seat hall.new; used_up = H.used_up hall.new };
+          backend = record { seat = H.seat hall.new; used_up = H.used_up hall.new };
           left = left;
           held = O.held output.new;
         })

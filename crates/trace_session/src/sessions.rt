@@ -44,12 +44,12 @@ pub fn session<R: Wait, H: Hall, I: Source, O: Sink>(
     requires { IsAtRest (H.seat hall.old) }
     ensures session { IsSession H.alone
         (record {
-          store = record { seat = H.seat hall.old; used_up = H.used_up hall.old };
+          backend = record { seat = H.seat hall.old; used_up = H.used_up hall.old };
           left = I.left input.old;
           held = O.held output.old;
         })
         (record {
-          store = record { seat = H.seat hall.new; used_up = H.used_up hall.new };
+          backend = record { seat = H.seat hall.new; used_up = H.used_up hall.new };
           left = I.left input.new;
           held = O.held output.new;
         }) result }
@@ -78,12 +78,12 @@ fn step<R: Wait, H: Hall, I: Source, O: Sink>(
     requires { IsAtRest (H.seat hall.old) }
     ensures steps { Steps H.alone
         (record {
-          store = record { seat = H.seat hall.old; used_up = H.used_up hall.old };
+          backend = record { seat = H.seat hall.old; used_up = H.used_up hall.old };
           left = left_to_read buf.old.input.pending (I.left input.old);
           held = O.held output.old;
         })
         (record {
-          store = record { seat = H.seat hall.new; used_up = H.used_up hall.new };
+          backend = record { seat = H.seat hall.new; used_up = H.used_up hall.new };
           left = left_to_read buf.new.input.pending (I.left input.new);
           held = O.held output.new;
         })

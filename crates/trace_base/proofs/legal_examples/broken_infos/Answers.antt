@@ -20,7 +20,8 @@ returns-clause-kind c legal =
     let h : 1 < 1 = (legal.existing 0 (track_of_kind 0 0) (omega arith)).1 in omega arith
 
 pub returns-clause-twice : goal.returns-clause-twice
-returns-clause-twice c legal = let h : ◌≡◌ {A = ℕ} 0 1 = legal.distinct 0 1 (track_of_kind 1 0) refl refl in omega arith
+returns-clause-twice c legal = let h : ◌≡◌ {A = ℕ} 0 1 = legal.distinct 0 1 (track_of_kind 1 0) refl refl
+    in omega arith
 
 pub returns-clause-sender : goal.returns-clause-sender
 returns-clause-sender c legal =

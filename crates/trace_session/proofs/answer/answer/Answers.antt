@@ -10,12 +10,12 @@ pub returns-in-Ok-clause-answers : goal.returns-in-Ok-clause-answers
 returns-in-Ok-clause-answers g c = λ request is left.
     let text = c.reply_into.new.out.items in
     let old : SessionState = record {
-      store = record { seat = g.H.Hall.seat c.args.hall.now; used_up = g.H.Hall.used_up c.args.hall.now };
+      backend = record { seat = g.H.Hall.seat c.args.hall.now; used_up = g.H.Hall.used_up c.args.hall.now };
       left = left;
       held = g.O.Sink.held c.args.output.now;
     } in
     let new : SessionState = record {
-      store = record {
+      backend = record {
         seat = g.H.Hall.seat c.serve-reply.new.hall;
         used_up = g.H.Hall.used_up c.serve-reply.new.hall;
       };
@@ -33,12 +33,12 @@ pub returns-clause-answers : goal.returns-clause-answers
 returns-clause-answers g c = λ request is left.
     let text = c.reply_into.new.out.items in
     let old : SessionState = record {
-      store = record { seat = g.H.Hall.seat c.args.hall.now; used_up = g.H.Hall.used_up c.args.hall.now };
+      backend = record { seat = g.H.Hall.seat c.args.hall.now; used_up = g.H.Hall.used_up c.args.hall.now };
       left = left;
       held = g.O.Sink.held c.args.output.now;
     } in
     let new : SessionState = record {
-      store = record {
+      backend = record {
         seat = g.H.Hall.seat c.serve-reply.new.hall;
         used_up = g.H.Hall.used_up c.serve-reply.new.hall;
       };

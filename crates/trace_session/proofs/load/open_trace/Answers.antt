@@ -7,13 +7,13 @@ use Rattle.hall_trait.specs.declared.answers.HallFault.TheVariants as fault
 use Rattle.hall_trait.specs.declared.pass.LoadPass.{LoadPass}
 use Rattle.small_form.specs.SmallForm.{small_info_of}
 use Rattle.trace_session.specs.Load.{Publishes}
-use Rattle.trace_session.specs.State.{Store}
+use Rattle.trace_session.specs.State.{Backend}
 use Rattle.trace_session.proofs.Opening.{put_memory, Serves-opened, Serves-dropped, Serves-refused, info_with}
 use Rattle.trace_session.proofs.load.open_trace.Goals as goal
 
 pub returns-in_default : goal.returns-in_default
 returns-in_default g c = λ text form.
-    let old : Store = record {
+    let old : Backend = record {
       seat = g.H.Hall.seat c.args.hall.now;
       used_up = g.H.Hall.used_up c.args.hall.now;
     } in put_memory g.H.Hall.alone old text c.requires.rest
@@ -36,11 +36,11 @@ publish_all-requires-clause-tracks g c =
 
 pub returns-in-Some : goal.returns-in-Some
 returns-in-Some g c = λ text form.
-    let old : Store = record {
+    let old : Backend = record {
       seat = g.H.Hall.seat c.args.hall.now;
       used_up = g.H.Hall.used_up c.args.hall.now;
     } in
-    let new : Store = record {
+    let new : Backend = record {
       seat = g.H.Hall.seat c.publish_all.new.hall;
       used_up = g.H.Hall.used_up c.publish_all.new.hall;
     } in
@@ -62,11 +62,11 @@ returns-in-Some g c = λ text form.
 
 pub returns-in-Ok-admit : goal.returns-in-Ok-admit
 returns-in-Ok-admit g c = λ text form.
-    let old : Store = record {
+    let old : Backend = record {
       seat = g.H.Hall.seat c.args.hall.now;
       used_up = g.H.Hall.used_up c.args.hall.now;
     } in
-    let new : Store = record {
+    let new : Backend = record {
       seat = g.H.Hall.seat c.publish_all.new.hall;
       used_up = g.H.Hall.used_up c.publish_all.new.hall;
     } in
@@ -87,11 +87,11 @@ returns-in-Ok-admit g c = λ text form.
 
 pub returns-in-Err-Memory : goal.returns-in-Err-Memory
 returns-in-Err-Memory g c = λ text form.
-    let old : Store = record {
+    let old : Backend = record {
       seat = g.H.Hall.seat c.args.hall.now;
       used_up = g.H.Hall.used_up c.args.hall.now;
     } in
-    let new : Store = record {
+    let new : Backend = record {
       seat = g.H.Hall.seat c.admit.new.self;
       used_up = g.H.Hall.used_up c.admit.new.self;
     } in
@@ -103,11 +103,11 @@ returns-in-Err-Memory g c = λ text form.
 
 pub returns-in-Err-Spent : goal.returns-in-Err-Spent
 returns-in-Err-Spent g c = λ text form.
-    let old : Store = record {
+    let old : Backend = record {
       seat = g.H.Hall.seat c.args.hall.now;
       used_up = g.H.Hall.used_up c.args.hall.now;
     } in
-    let new : Store = record {
+    let new : Backend = record {
       seat = g.H.Hall.seat c.admit.new.self;
       used_up = g.H.Hall.used_up c.admit.new.self;
     } in
@@ -120,11 +120,11 @@ returns-in-Err-Spent g c = λ text form.
 
 pub returns : goal.returns
 returns g c = λ text form.
-    let old : Store = record {
+    let old : Backend = record {
       seat = g.H.Hall.seat c.args.hall.now;
       used_up = g.H.Hall.used_up c.args.hall.now;
     } in
-    let new : Store = record {
+    let new : Backend = record {
       seat = g.H.Hall.seat c.admit.new.self;
       used_up = g.H.Hall.used_up c.admit.new.self;
     } in

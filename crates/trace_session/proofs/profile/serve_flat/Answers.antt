@@ -6,17 +6,17 @@ use Rattle.hall_trait.specs.Seat.{Seat, Removes, MakesNoEntry}
 use Rattle.hall_trait.specs.declared.answers.AskAnswer.{AskAnswer}
 use Rattle.session_proto.specs.declared.reply.No.TheVariants as no
 use Rattle.session_proto.specs.declared.reply.Reply.TheVariants as reply
-use Rattle.trace_session.specs.State.{Store}
+use Rattle.trace_session.specs.State.{Backend}
 use Rattle.trace_session.proofs.Asking.{seen_profile, Serves-unknown, Serves-no_place, Serves-seen}
 use Rattle.trace_session.proofs.profile.serve_flat.Goals as goal
 
 pub returns-in-Pinned : goal.returns-in-Pinned
 returns-in-Pinned g c =
-    let old : Store = record {
+    let old : Backend = record {
       seat = g.H.Hall.seat c.args.hall.now;
       used_up = g.H.Hall.used_up c.args.hall.now;
     } in
-    let new : Store = record {
+    let new : Backend = record {
       seat = g.H.Hall.seat c.unpin.new.self;
       used_up = g.H.Hall.used_up c.unpin.new.self;
     } in
@@ -39,11 +39,11 @@ returns-in-Pinned g c =
 
 pub returns-in-Unknown : goal.returns-in-Unknown
 returns-in-Unknown g c =
-    let old : Store = record {
+    let old : Backend = record {
       seat = g.H.Hall.seat c.args.hall.now;
       used_up = g.H.Hall.used_up c.args.hall.now;
     } in
-    let new : Store = record {
+    let new : Backend = record {
       seat = g.H.Hall.seat c.ask.new.self;
       used_up = g.H.Hall.used_up c.ask.new.self;
     } in
@@ -57,11 +57,11 @@ returns-in-Unknown g c =
 
 pub returns-in-Spent : goal.returns-in-Spent
 returns-in-Spent g c =
-    let old : Store = record {
+    let old : Backend = record {
       seat = g.H.Hall.seat c.args.hall.now;
       used_up = g.H.Hall.used_up c.args.hall.now;
     } in
-    let new : Store = record {
+    let new : Backend = record {
       seat = g.H.Hall.seat c.ask.new.self;
       used_up = g.H.Hall.used_up c.ask.new.self;
     } in

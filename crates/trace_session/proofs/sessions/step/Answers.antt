@@ -14,7 +14,7 @@ returns-in-Err-clause-steps g c =
     let pending = c.next_request.new.buf.pending in
     let text = c.next_request.new.buf.text.items in
     let old : SessionState = record {
-      store = record { seat = g.H.Hall.seat c.args.hall.now; used_up = g.H.Hall.used_up c.args.hall.now };
+      backend = record { seat = g.H.Hall.seat c.args.hall.now; used_up = g.H.Hall.used_up c.args.hall.now };
       left = left_to_read c.args.buf.now.input.pending (g.I.Source.left c.args.input.now);
       held = g.O.Sink.held c.args.output.now;
     } in
@@ -31,12 +31,15 @@ pub returns-in-Ok-clause-steps : goal.returns-in-Ok-clause-steps
 returns-in-Ok-clause-steps g c =
     let text = c.next_request.new.buf.text.items in
     let old : SessionState = record {
-      store = record { seat = g.H.Hall.seat c.args.hall.now; used_up = g.H.Hall.used_up c.args.hall.now };
+      backend = record { seat = g.H.Hall.seat c.args.hall.now; used_up = g.H.Hall.used_up c.args.hall.now };
       left = left_to_read c.args.buf.now.input.pending (g.I.Source.left c.args.input.now);
       held = g.O.Sink.held c.args.output.now;
     } in
     let new : InputBuf → SessionState = λ b. record {
-      store = record { seat = g.H.Hall.seat c.answer.new.hall; used_up = g.H.Hall.used_up c.answer.new.hall };
+      backend = record {
+        seat = g.H.Hall.seat c.answer.new.hall;
+        used_up = g.H.Hall.used_up c.answer.new.hall;
+      };
       left = left_to_read b.pending (g.I.Source.left c.next_request.new.input);
       held = g.O.Sink.held c.answer.new.output;
     } in
