@@ -22,7 +22,8 @@ pub struct NodeKey {
     pub kids: [Kid; 8],
     pub ghost few: { len ≤ MAX_KIDS },
     /// Kids past `len` are all zero.
-    pub ghost zero_past: { drop len kids ≡ replicate (MAX_KIDS - len) (record { gap = 0; span = 0; node = 0 }) },
+    pub ghost zero_past: { drop len kids ≡ replicate (MAX_KIDS - len)
+        (record { gap = 0; span = 0; node = 0 }) },
     /// Only a leaf has height 0.
     pub ghost leaf: { (height ≡ 0) ↔ (len ≡ 0) },
     pub ghost within: { sum_by (λ k. k.gap + k.span) kids ≤ dur },

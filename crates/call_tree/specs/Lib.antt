@@ -1,0 +1,5 @@
+pub mod Bound
+pub mod Calls
+pub mod Events
+pub mod Examples
+pub mod Trees

@@ -1,0 +1,41 @@
+//! The definitions, computed on small streams. Each clause is the equation; the bodies are empty.
+ghost use Rattle.std.specs.Prelude.{◌≡◌, ◌∷◌, [], length, map};
+ghost use Rattle.trace_base.specs.Examples.{two_calls, recursion, no_length};
+ghost use Rattle.call_tree.specs.Calls.{calls, outermost_calls, inner_calls};
+ghost use Rattle.call_tree.specs.Bound.{bound};
+ghost use Rattle.call_tree.specs.Trees.{tree};
+ghost use Rattle.call_tree.specs.Events.{events};
+ghost use Rattle.call_tree.specs.Examples.{in_a_row};
+ghost use Rattle.node_key.specs.Tree.{count, height, nodes, no_kids, kid};
+
+/// Main calls f twice: the calls as pairs of positions, and which lie in no other.
+#[tactic(auto, unfolding(crate::specs::Calls::outer_calls))]
+pub fn calls_of_two_calls()
+    ensures all { calls two_calls.events ≡ record { enter = 0; leave = 5 } ∷ record { enter = 1; leave = 2 }
+        ∷ record { enter = 3; leave = 4 } ∷ [] }
+    ensures outermost { outermost_calls two_calls.events ≡ record { enter = 0; leave = 5 } ∷ [] }
+    ensures inner { inner_calls two_calls.events (record { enter = 0; leave = 5 })
+        ≡ record { enter = 1; leave = 2 } ∷ record { enter = 3; leave = 4 } ∷ [] }
+{}
+
+/// Trees of small streams.
+#[tactic(auto, unfolding(crate::specs::Calls::outer_calls, crate::specs::Bound::grouped, crate::specs::Bound::bound, crate::specs::Trees::tree))]
+pub fn trees_of_small_streams()
+    ensures two_calls { tree two_calls ≡ record {
+      func = 0;
+      dur = 500000000;
+      kids = kid 0 1 500000000 (kid 100000000 2 100000000 no_kids (kid 100000000 2 100000000 no_kids no_kids)) no_kids;
+    } }
+    ensures recursion { tree recursion ≡ record { func = 0; dur = 10; kids = kid 0 1 10 (kid 2 1 2 no_kids no_kids) no_kids } }
+    ensures no_length { tree no_length ≡ record { func = 0; dur = 100; kids = kid 10 1 0 no_kids (kid 10 1 0 no_kids no_kids) } }
+{}
+
+/// Bounded lists of 8, 9, 16, 17 and 65 calls.
+#[tactic(auto, unfolding(crate::specs::Bound::grouped, crate::specs::Bound::bound))]
+pub fn bounded_lists()
+    ensures eight { bound (in_a_row 8) ≡ in_a_row 8 }
+    ensures nine { map (λ i. count i.tree.kids) (bound (in_a_row 9)) ≡ 8 ∷ 0 ∷ [] }
+    ensures sixteen { map (λ i. count i.tree.kids) (bound (in_a_row 16)) ≡ 8 ∷ 8 ∷ [] }
+    ensures seventeen { map (λ i. count i.tree.kids) (bound (in_a_row 17)) ≡ 8 ∷ 8 ∷ 0 ∷ [] }
+    ensures sixty_five { map (λ i. height i.tree) (bound (in_a_row 65)) ≡ 2 ∷ 0 ∷ [] }
+{}
