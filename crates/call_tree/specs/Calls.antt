@@ -1,5 +1,6 @@
 -- The calls of a list of events, as pairs of positions, and which of them lie in no other.
-use Rattle.std.specs.Prelude.{ℕ, ◌+◌, ◌-◌, Bool, true, false, not, ◌&&◌, ◌==◌, nat_lt, nat_le, List, length, filter}
+use Rattle.std.specs.Prelude.{ℕ, ◌+◌, ◌-◌, Bool, true, false, not, ◌&&◌, ◌==◌, nat_lt, nat_le, List, length}
+use Rattle.std.specs.Prelude.{filter}
 use Rattle.std.specs.Prelude.{count_by, find, map, Option, Some, None, slice_get, take, drop, if◌then◌else◌}
 use Rattle.std.specs.List.{filter_map, list_any, range_with_len}
 use Rattle.std.specs.Option.{option_map}
@@ -14,8 +15,8 @@ is_balanced es = count_by is_enter es == count_by (λ e. not (is_enter e)) es
 abbrev pub events_between : ℕ → ℕ → List Event → List Event
 events_between i j es = take (j + 1 - i) (drop i es)
 
--- the position of the Leave of the call that event i enters: the least later one up to which there are as many Leaves
--- as Enters
+-- the position of the Leave of the call that event i enters: the least later one up to which there are as
+-- many Leaves as Enters
 abbrev pub leave_of : List Event → ℕ → Option ℕ
 leave_of es i = find (λ j. is_balanced (events_between i j es)) (range_with_len (i + 1) (length es - (i + 1)))
 
@@ -32,7 +33,8 @@ enters_at (Some e) = is_enter e
 -- the call that event i enters, if it is an Enter that is left
 abbrev pub call_at : List Event → ℕ → Option Call
 call_at es i =
-    if enters_at (slice_get es i) then option_map (λ j. record { enter = i; leave = j }) (leave_of es i) else None
+    if enters_at (slice_get es i) then option_map (λ j. record { enter = i; leave = j }) (leave_of es i)
+    else None
 
 -- the calls of the events, in the order of their Enters
 abbrev pub calls : List Event → List Call
@@ -48,7 +50,8 @@ calls_within es low high = filter (λ c. nat_le low c.enter && nat_lt c.leave hi
 
 -- those of them that lie in no other of them
 unfoldable pub outer_calls : List Event → ℕ → ℕ → List Call
-outer_calls es low high = filter (λ c. not (list_any (lies_in c) (calls_within es low high))) (calls_within es low high)
+outer_calls es low high = filter (λ c. not (list_any (lies_in c) (calls_within es low high)))
+    (calls_within es low high)
 
 -- the calls within a call that lie in no other call within it
 abbrev pub inner_calls : List Event → Call → List Call

@@ -24,10 +24,19 @@ pub fn trees_of_small_streams()
     ensures two_calls { tree two_calls ≡ record {
       func = 0;
       dur = 500000000;
-      kids = kid 0 1 500000000 (kid 100000000 2 100000000 no_kids (kid 100000000 2 100000000 no_kids no_kids)) no_kids;
+      kids = kid 0 1 500000000 (kid 100000000 2 100000000 no_kids (kid 100000000 2 100000000 no_kids no_kids))
+          no_kids;
     } }
-    ensures recursion { tree recursion ≡ record { func = 0; dur = 10; kids = kid 0 1 10 (kid 2 1 2 no_kids no_kids) no_kids } }
-    ensures no_length { tree no_length ≡ record { func = 0; dur = 100; kids = kid 10 1 0 no_kids (kid 10 1 0 no_kids no_kids) } }
+    ensures recursion { tree recursion ≡ record {
+      func = 0;
+      dur = 10;
+      kids = kid 0 1 10 (kid 2 1 2 no_kids no_kids) no_kids;
+    } }
+    ensures no_length { tree no_length ≡ record {
+      func = 0;
+      dur = 100;
+      kids = kid 10 1 0 no_kids (kid 10 1 0 no_kids no_kids);
+    } }
 {}
 
 /// Bounded lists of 8, 9, 16, 17 and 65 calls.

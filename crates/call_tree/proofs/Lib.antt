@@ -1,0 +1,5 @@
+pub mod Below
+pub mod BoundedLists
+pub mod Chunks
+pub mod Fits
+pub mod Grouping
