@@ -1,5 +1,5 @@
 -- The calls of a list of events, as pairs of positions, and which of them lie in no other.
-use Rattle.std.specs.Prelude.{ℕ, ◌+◌, ◌-◌, Bool, true, false, not, ◌&&◌, ◌==◌, nat_lt, nat_le, List, length}
+use Rattle.std.specs.Prelude.{ℕ, ◌+◌, ◌-◌, Bool, true, false, not, ◌&&◌, ◌==◌, nat_lt, List, length}
 use Rattle.std.specs.Prelude.{filter}
 use Rattle.std.specs.Prelude.{count_by, find, map, Option, Some, None, slice_get, take, drop, if◌then◌else◌}
 use Rattle.std.specs.List.{filter_map, list_any, range_with_len}
@@ -36,17 +36,18 @@ call_at es i =
     if enters_at (slice_get es i) then option_map (λ j. record { enter = i; leave = j }) (leave_of es i)
     else None
 
--- the calls of the events, in the order of their Enters
-abbrev pub calls : List Event → List Call
-calls es = filter_map (call_at es) (range_with_len 0 (length es))
-
 -- c lies in d
 abbrev pub lies_in : Call → Call → Bool
 lies_in c d = nat_lt d.enter c.enter && nat_lt c.leave d.leave
 
--- the calls whose positions are from `low` to `high`, not included
+-- the calls whose Enter and Leave are among the events from `low` to `high`, not included, in the order of their Enters
 abbrev pub calls_within : List Event → ℕ → ℕ → List Call
-calls_within es low high = filter (λ c. nat_le low c.enter && nat_lt c.leave high) (calls es)
+calls_within es low high =
+    filter (λ c. nat_lt c.leave high) (filter_map (call_at es) (range_with_len low (high - low)))
+
+-- the calls of the events
+abbrev pub calls : List Event → List Call
+calls es = calls_within es 0 (length es)
 
 -- those of them that lie in no other of them
 unfoldable pub outer_calls : List Event → ℕ → ℕ → List Call
