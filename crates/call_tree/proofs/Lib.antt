@@ -4,4 +4,6 @@ pub mod Chunks
 pub mod Fits
 pub mod Forest
 pub mod Grouping
+pub mod Laws
+pub mod Parsing
 pub mod Positions
