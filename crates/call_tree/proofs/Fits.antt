@@ -142,15 +142,15 @@ eights zero = 8
 eights (suc k) = 8 * eights k
 
 -- a bounded list is at most as many levels higher as it was grouped
-pub Low-bound : (k n : ℕ) (is : List Item) → length is ≤ eights k → Low k n is → Low 0 n (bound is)
-Low-bound zero n is few low = subst (λ (l : List Item). Low 0 n l) (sym (bound-few is few)) low
-Low-bound (suc k) n is few low =
+pub Low-bound : (k m n : ℕ) (is : List Item) → length is ≤ eights k → Low (m + k) n is → Low m n (bound is)
+Low-bound zero m n is few low =
+    subst (λ (l : List Item). Low m n l) (sym (bound-few is few)) (Low-weaker (m + 0) m n n is (λ h p. omega arith) low)
+Low-bound (suc k) m n is few low =
     elim (cases_lt 8 (length is)) [
-      | inl more ↦ subst (λ (l : List Item). Low 0 n l) (sym (bound-more is more))
-          (Low-bound k n (grouped is) (omega (arith, length-grouped is, few))
-          (Low-grouped k n is (Low-weaker (suc k) (k + 1) n n is (λ h p. omega arith) low)))
-      | inr short ↦ subst (λ (l : List Item). Low 0 n l) (sym (bound-few is short))
-          (Low-weaker (suc k) 0 n n is (λ h p. omega arith) low)
+      | inl more ↦ subst (λ (l : List Item). Low m n l) (sym (bound-more is more))
+          (Low-bound k m n (grouped is) (omega (arith, length-grouped is, few)) (Low-grouped (m + k) n is (Low-weaker (m + suc k) (m + k + 1) n n is (λ h p. omega arith) low)))
+      | inr short ↦ subst (λ (l : List Item). Low m n l) (sym (bound-few is short))
+          (Low-weaker (m + suc k) m n n is (λ h p. omega arith) low)
     ]
 
 -- what holds of a list and of its groups holds of the bounded list

@@ -6,4 +6,5 @@ pub mod Forest
 pub mod Grouping
 pub mod Laws
 pub mod Parsing
+pub mod Passing
 pub mod Positions

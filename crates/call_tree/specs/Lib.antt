@@ -2,4 +2,5 @@ pub mod Bound
 pub mod Calls
 pub mod Events
 pub mod Examples
+pub mod Passing
 pub mod Trees

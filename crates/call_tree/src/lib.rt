@@ -2,9 +2,12 @@
 #![tactic(auto)]
 
 mod bounding;
+mod building;
 mod events;
 mod examples;
 mod group;
+mod pass;
 
 pub use bounding::split;
+pub use building::tree_of;
 pub use events::events_of;
