@@ -1,6 +1,6 @@
 -- A list under way to its bounded list.
 use Rattle.std.proofs.Common.{◌≡◌, ℕ, ◌+◌, ◌-◌, ◌^◌, ◌<◌, ◌≤◌, zero, suc, List, length, refl, sym, ◌∙◌, arith}
-use Rattle.std.proofs.Common.{All, lit≤}
+use Rattle.std.proofs.Common.{All}
 use Rattle.std.proofs.lemmas.List.Elements.{All-weaker}
 use Rattle.node_key.specs.Tree.{height}
 use Rattle.node_key.specs.Items.{FitBetween}

@@ -1,7 +1,7 @@
 -- The chunks of a list, one after the other.
-use Rattle.std.proofs.Common.{◌≡◌, ℕ, ◌+◌, ◌-◌, ◌*◌, ◌/◌, ◌<◌, ◌≤◌, zero, suc, List, [], ◌∷◌, ◌++◌, length}
+use Rattle.std.proofs.Common.{◌≡◌, ℕ, ◌+◌, ◌*◌, ◌/◌, ◌<◌, ◌≤◌, zero, suc, List, [], ◌∷◌, ◌++◌, length}
 use Rattle.std.proofs.Common.{take, drop, map, refl}
-use Rattle.std.proofs.Common.{sym, ap, subst, ◌∙◌, arith, length-drop, append-nil, cond, inl, inr, Bool}
+use Rattle.std.proofs.Common.{sym, ap, ◌∙◌, arith, length-drop, append-nil, cond, inl, inr, Bool}
 use Rattle.std.proofs.Common.{false, leb, get_or, take_all}
 use Rattle.std.proofs.lemmas.List.{drop-drop, drop_all, length-map}
 use Rattle.std.proofs.Math.Seq.{take-append_seam, drop-append_seam}

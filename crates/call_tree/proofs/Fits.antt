@@ -1,14 +1,14 @@
 -- Items that lie between two times, and their heights, when they are put into groups.
-use Rattle.std.proofs.Common.{◌≡◌, ℕ, ◌+◌, ◌-◌, ◌*◌, ◌/◌, ◌<◌, ◌≤◌, max, zero, suc, List, [], ◌∷◌, ◌++◌}
+use Rattle.std.proofs.Common.{◌≡◌, ℕ, ◌+◌, ◌*◌, ◌<◌, ◌≤◌, zero, suc, List, [], ◌∷◌, ◌++◌}
 use Rattle.std.proofs.Common.{length, take, drop, refl}
-use Rattle.std.proofs.Common.{sym, ap, subst, ◌∙◌, arith, take-append-drop, append-nil, All, inl, inr}
+use Rattle.std.proofs.Common.{sym, ap, subst, arith, take-append-drop, append-nil, All, inl, inr}
 use Rattle.std.proofs.lemmas.List.Elements.{All-nil, All-cons, All-head, All-tail, All-take, All-drop}
 use Rattle.std.proofs.lemmas.List.Elements.{All-weaker}
 use Rattle.std.proofs.lemmas.List.{length-take}
 use Rattle.std.proofs.lemmas.Bool.{cases_lt}
-use Rattle.node_key.specs.Tree.{Tree, height, height_above}
+use Rattle.node_key.specs.Tree.{height, height_above}
 use Rattle.node_key.specs.Branches.{kids_of}
-use Rattle.node_key.specs.Items.{end_of, branches_from, FitBetween, node}
+use Rattle.node_key.specs.Items.{end_of, branches_from, FitBetween}
 use Rattle.node_key.specs.declared.item.Item.{Item}
 use Rattle.node_key.proofs.Kids.{FitBetween-le}
 use Rattle.call_tree.specs.Bound.{group, grouped, bound, start_of, stop_of}
@@ -144,11 +144,13 @@ eights (suc k) = 8 * eights k
 -- a bounded list is at most as many levels higher as it was grouped
 pub Low-bound : (k m n : ℕ) (is : List Item) → length is ≤ eights k → Low (m + k) n is → Low m n (bound is)
 Low-bound zero m n is few low =
-    subst (λ (l : List Item). Low m n l) (sym (bound-few is few)) (Low-weaker (m + 0) m n n is (λ h p. omega arith) low)
+    subst (λ (l : List Item). Low m n l) (sym (bound-few is few))
+    (Low-weaker (m + 0) m n n is (λ h p. omega arith) low)
 Low-bound (suc k) m n is few low =
     elim (cases_lt 8 (length is)) [
       | inl more ↦ subst (λ (l : List Item). Low m n l) (sym (bound-more is more))
-          (Low-bound k m n (grouped is) (omega (arith, length-grouped is, few)) (Low-grouped (m + k) n is (Low-weaker (m + suc k) (m + k + 1) n n is (λ h p. omega arith) low)))
+          (Low-bound k m n (grouped is) (omega (arith, length-grouped is, few))
+          (Low-grouped (m + k) n is (Low-weaker (m + suc k) (m + k + 1) n n is (λ h p. omega arith) low)))
       | inr short ↦ subst (λ (l : List Item). Low m n l) (sym (bound-few is short))
           (Low-weaker (m + suc k) m n n is (λ h p. omega arith) low)
     ]

@@ -1,6 +1,8 @@
 -- Lists of calls in one another: their events, and how many of these are Enters and Leaves.
-use Rattle.std.proofs.Common.{◌≡◌, ℕ, ◌+◌, ◌-◌, ◌<◌, ◌≤◌, zero, suc, List, [], ◌∷◌, ◌++◌, length, take, drop, map, refl, sym, ap, subst}
-use Rattle.std.proofs.Common.{◌∙◌, arith, append_assoc, append-nil, length-append, Bool, true, false, not, cond}
+use Rattle.std.proofs.Common.{◌≡◌, ℕ, ◌+◌, ◌≤◌, zero, suc, List, [], ◌∷◌, ◌++◌, length, take}
+use Rattle.std.proofs.Common.{refl, sym, subst}
+use Rattle.std.proofs.Common.{arith, append_assoc, append-nil, length-append, not}
+use Rattle.std.proofs.Common.{cond}
 use Rattle.std.specs.Prelude.{count_by}
 use Rattle.std.proofs.lemmas.List.Sums.{sum_by-cons}
 use Rattle.trace_base.specs.Stream.{is_enter}
@@ -39,8 +41,16 @@ leaves (Leave t ∷ es) = leaves es + 1
 
 pub enters-is : (es : List Event) → count_by is_enter es ≡ enters es
 enters-is [] = refl
-enters-is (Enter f t ∷ es) = omega (arith, sum_by-cons (λ (e : Event). cond (is_enter e) 1 0) (Enter f t) es, enters-is es)
-enters-is (Leave t ∷ es) = omega (arith, sum_by-cons (λ (e : Event). cond (is_enter e) 1 0) (Leave t) es, enters-is es)
+enters-is (Enter f t ∷ es) = omega (
+  arith,
+  sum_by-cons (λ (e : Event). cond (is_enter e) 1 0) (Enter f t) es,
+  enters-is es,
+)
+enters-is (Leave t ∷ es) = omega (
+  arith,
+  sum_by-cons (λ (e : Event). cond (is_enter e) 1 0) (Leave t) es,
+  enters-is es,
+)
 
 pub leaves-is : (es : List Event) → count_by (λ e. not (is_enter e)) es ≡ leaves es
 leaves-is [] = refl
@@ -63,12 +73,24 @@ leaves-append (Leave t ∷ xs) ys = omega (arith, leaves-append xs ys)
 pub leaves-flat : (F : Forest) → leaves (flat F) ≡ enters (flat F)
 leaves-flat none = refl
 leaves-flat (call f t A u B) =
-    omega (arith, leaves-append (flat A) (Leave u ∷ flat B), enters-append (flat A) (Leave u ∷ flat B), leaves-flat A, leaves-flat B)
+    omega (
+      arith,
+      leaves-append (flat A) (Leave u ∷ flat B),
+      enters-append (flat A) (Leave u ∷ flat B),
+      leaves-flat A,
+      leaves-flat B,
+    )
 
 pub length-flat : (F : Forest) → length (flat F) ≡ enters (flat F) + enters (flat F)
 length-flat none = refl
 length-flat (call f t A u B) =
-    omega (arith, length-append (flat A) (Leave u ∷ flat B), enters-append (flat A) (Leave u ∷ flat B), length-flat A, length-flat B)
+    omega (
+      arith,
+      length-append (flat A) (Leave u ∷ flat B),
+      enters-append (flat A) (Leave u ∷ flat B),
+      length-flat A,
+      length-flat B,
+    )
 
 -- with d calls open before, no front of the events has a Leave too many
 abbrev pub NeverBelow : ℕ → List Event → Type 0
@@ -85,14 +107,19 @@ never_leave d t es h (suc k) = omega (arith, h k)
 pub never_flat : (F : Forest) (d : ℕ) (es : List Event) → NeverBelow d es → NeverBelow d (flat F ++ es)
 never_flat none d es h = h
 never_flat (call f t A u B) d es h =
-    subst (λ (l : List Event). NeverBelow d (Enter f t ∷ l)) (sym (append_assoc (flat A) (Leave u ∷ flat B) es))
+    subst (λ (l : List Event). NeverBelow d (Enter f t ∷ l))
+    (sym (append_assoc (flat A) (Leave u ∷ flat B) es))
     (never_enter d f t (flat A ++ Leave u ∷ (flat B ++ es))
     (never_flat A (d + 1) (Leave u ∷ (flat B ++ es)) (never_leave d u (flat B ++ es) (never_flat B d es h))))
 
 pub front_of_flat : (F : Forest) (k : ℕ) → leaves (take k (flat F)) ≤ enters (take k (flat F))
 front_of_flat F k =
     let nothing : NeverBelow 0 [] = λ k. nil_front k in
-    omega (arith, subst (λ (l : List Event). NeverBelow 0 l) (append-nil (flat F)) (never_flat F 0 [] nothing) k)
+    omega (
+      arith,
+      subst (λ (l : List Event). NeverBelow 0 l) (append-nil (flat F)) (never_flat F 0 [] nothing)
+          k,
+    )
   where
     nil_front : (k : ℕ) → leaves (take k []) ≤ 0 + enters (take k [])
     nil_front zero = omega arith

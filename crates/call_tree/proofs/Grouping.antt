@@ -1,5 +1,5 @@
 -- A list under way to its groups.
-use Rattle.std.proofs.Common.{◌≡◌, ℕ, ◌<◌, ◌≤◌, List, [], ◌∷◌, ◌++◌, length, take, drop, refl, sym, ap, subst}
+use Rattle.std.proofs.Common.{◌≡◌, ◌<◌, ◌≤◌, List, [], ◌∷◌, ◌++◌, length, take, drop, refl, sym, ap, subst}
 use Rattle.std.proofs.Common.{◌∙◌, arith, All}
 use Rattle.std.proofs.Common.{append_assoc, append-nil, take-append-drop, length-take, IsTrue, false}
 use Rattle.std.proofs.lemmas.Bool.{false≢true}
@@ -12,7 +12,7 @@ use Rattle.node_key.specs.declared.limits.TheConstants.{HEIGHT_BOUND}
 use Rattle.trace_base.specs.declared.limits.TheConstants.{MAX_TIME}
 use Rattle.call_tree.specs.Bound.{group, grouped}
 use Rattle.call_tree.proofs.Chunks.{grouped-some, grouped-none}
-use Rattle.call_tree.proofs.Fits.{last_end, FitBetween-parts, FitBetween-lower, FitBetween-upper, last_end-le}
+use Rattle.call_tree.proofs.Fits.{last_end, FitBetween-parts, FitBetween-lower, FitBetween-upper}
 use Rattle.node_key.proofs.Kids.{FitBetween-le}
 
 -- the groups so far and those of the items that are left

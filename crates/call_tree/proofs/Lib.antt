@@ -4,7 +4,9 @@ pub mod Chunks
 pub mod Fits
 pub mod Forest
 pub mod Grouping
-pub mod Laws
+pub mod Moving
 pub mod Parsing
 pub mod Passing
 pub mod Positions
+pub mod StreamTrees
+pub mod TheLaw

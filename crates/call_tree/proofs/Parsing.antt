@@ -1,6 +1,8 @@
 -- The calls of a legal stream, in one another.
-use Rattle.std.proofs.Common.{◌≡◌, ◌≢◌, ℕ, ◌+◌, ◌-◌, ◌<◌, ◌≤◌, zero, suc, List, [], ◌∷◌, ◌++◌, length, take, drop, map, refl, sym, ap}
-use Rattle.std.proofs.Common.{subst, ◌∙◌, arith, append_assoc, append-nil, length-append, length-take, Some, slice_get, filter, fold, true, false}
+use Rattle.std.proofs.Common.{◌≡◌, ◌≢◌, ℕ, ◌+◌, ◌-◌, ◌<◌, ◌≤◌, suc, List, [], ◌∷◌, ◌++◌, length, take}
+use Rattle.std.proofs.Common.{map, refl, sym, ap}
+use Rattle.std.proofs.Common.{subst, ◌∙◌, arith, append_assoc, length-append, length-take, Some}
+use Rattle.std.proofs.Common.{slice_get, filter, fold}
 use Rattle.std.specs.List.Sorted.{IsNonDecreasing}
 use Rattle.trace_base.specs.Stream.{time_of, is_enter, stack_step, stack_after, IsLegal}
 use Rattle.trace_base.specs.declared.stream.Event.{Event}
@@ -32,30 +34,31 @@ going_on stack now end e es g = record {
   functions = λ i f t h. g.functions (suc i) f t h;
 }
 
-in_order : (stack : List ℕ) (now end : ℕ) (e : Event) (es : List Event) → Going stack now end (e ∷ es) → now ≤ time_of e
+in_order : (stack : List ℕ) (now end : ℕ) (e : Event) (es : List Event) → Going stack now end (e ∷ es)
+    → now ≤ time_of e
 in_order stack now end e es g = g.order 0 1 0 (omega arith) (omega arith)
 
 nonempty : (stack : List ℕ) → stack ≢ [] → 0 < length stack
 nonempty [] h = absurd (h refl)
 nonempty (x ∷ xs) h = omega arith
 
-pub fine : (es : List Event) (stack : List ℕ) (now end : ℕ) → Going stack now end es → Fine (length stack) now end es
+pub fine : (es : List Event) (stack : List ℕ) (now end : ℕ) → Going stack now end es
+    → Fine (length stack) now end es
 fine [] stack now end g = (ap length g.closed, g.order 0 1 0 (omega arith) (omega arith))
-fine (Enter f t ∷ es) stack now end g =
-    (
-      in_order stack now end (Enter f t) es g,
-      omega (arith, g.depth 1, length-append stack (f ∷ [])),
-      g.functions 0 f t refl,
-      subst (λ (n : ℕ). Fine n t end es) (length-append stack (f ∷ []))
+fine (Enter f t ∷ es) stack now end g = (
+  in_order stack now end (Enter f t) es g,
+  omega (arith, g.depth 1, length-append stack (f ∷ [])),
+  g.functions 0 f t refl,
+  subst (λ (n : ℕ). Fine n t end es) (length-append stack (f ∷ []))
       (fine es (stack ++ f ∷ []) t end (going_on stack now end (Enter f t) es g)),
-    )
+)
 fine (Leave t ∷ es) stack now end g =
-    let fewer : length (take (length stack - 1) stack) ≡ length stack - 1 = omega (arith, length-take (length stack - 1) stack) in
-    (
+    let fewer : length (take (length stack - 1) stack) ≡ length stack - 1 =
+    omega (arith, length-take (length stack - 1) stack) in (
       in_order stack now end (Leave t) es g,
       nonempty stack (g.closes 0 t refl),
       subst (λ (n : ℕ). Fine n t end es) fewer
-      (fine es (take (length stack - 1) stack) t end (going_on stack now end (Leave t) es g)),
+          (fine es (take (length stack - 1) stack) t end (going_on stack now end (Leave t) es g)),
     )
 
 pub legal_fine : (s : TrackStream) → IsLegal s → Fine 0 s.start s.end s.events
@@ -86,7 +89,11 @@ entered f t now (c ∷ cs) = record { now = call f t now c.stop c.behind; later 
 abbrev pub parse : List Event → Parsed
 parse [] = record { now = none; later = [] }
 parse (Enter f t ∷ es) = entered f t (parse es).now (parse es).later
-parse (Leave u ∷ es) = record { now = none; later = record { stop = u; behind = (parse es).now } ∷ (parse es).later }
+parse (Leave u ∷ es) = record {
+  now = none;
+  later = record { stop = u; behind = (parse es).now }
+      ∷ (parse es).later;
+}
 
 abbrev pub unparse : Forest → List Closer → List Event
 unparse F [] = flat F
@@ -107,7 +114,8 @@ pub record IsParsed (d now end : ℕ) (es : List Event) (p : Parsed) : Type 0 wh
   pub sound : SoundAll now end p.now p.later
 
 parsed_enter : (d now end f t : ℕ) (es : List Event) (F : Forest) (later : List Closer) → now ≤ t → 1 ≤ f
-    → length later ≡ d + 1 → unparse F later ≡ es → SoundAll t end F later → IsParsed d now end (Enter f t ∷ es) (entered f t F later)
+    → length later ≡ d + 1 → unparse F later ≡ es → SoundAll t end F later
+    → IsParsed d now end (Enter f t ∷ es) (entered f t F later)
 parsed_enter d now end f t es F [] h k n e s = absurd (omega arith)
 parsed_enter d now end f t es F (c ∷ []) h k n e s = record {
   number = omega arith;
@@ -116,7 +124,8 @@ parsed_enter d now end f t es F (c ∷ []) h k n e s = record {
 }
 parsed_enter d now end f t es F (c ∷ b ∷ cs) h k n e s = record {
   number = omega arith;
-  events = ap (λ (l : List Event). Enter f t ∷ l) (append_assoc (flat F) (Leave c.stop ∷ flat c.behind) (Leave b.stop ∷ unparse b.behind cs) ∙ e);
+  events = ap (λ (l : List Event). Enter f t ∷ l) (append_assoc (flat F) (Leave c.stop ∷ flat c.behind)
+      (Leave b.stop ∷ unparse b.behind cs) ∙ e);
   sound = ((k, h, s.0, s.1.0), s.1.1);
 }
 
@@ -142,7 +151,8 @@ pub record Calls (s : TrackStream) (F : Forest) : Type 0 where
   pub events : s.events ≡ flat F
   pub sound : Sound s.start F s.end
 
-no_closers : (F : Forest) (later : List Closer) (now end : ℕ) (es : List Event) → length later ≡ 0 → unparse F later ≡ es
+no_closers : (F : Forest) (later : List Closer) (now end : ℕ) (es : List Event) → length later ≡ 0
+    → unparse F later ≡ es
     → SoundAll now end F later → (es ≡ flat F) × Sound now F end
 no_closers F [] now end es n e s = (sym e, s)
 no_closers F (c ∷ cs) now end es n e s = absurd (omega arith)
@@ -150,7 +160,8 @@ no_closers F (c ∷ cs) now end es n e s = absurd (omega arith)
 pub legal_calls : (s : TrackStream) → IsLegal s → Calls s (parse s.events).now
 legal_calls s legal =
     let p = parse-is s.events 0 s.start s.end (legal_fine s legal) in
-    let parts = no_closers (parse s.events).now (parse s.events).later s.start s.end s.events p.number p.events p.sound in
+    let parts = no_closers (parse s.events).now (parse s.events).later s.start s.end s.events p.number
+    p.events p.sound in
     record { events = parts.0; sound = parts.1 }
 
 -- how many calls a legal stream has

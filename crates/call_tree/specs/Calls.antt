@@ -1,7 +1,7 @@
 -- The calls of a list of events, as pairs of positions, and which of them lie in no other.
-use Rattle.std.specs.Prelude.{ℕ, ◌+◌, ◌-◌, Bool, true, false, not, ◌&&◌, ◌==◌, nat_lt, List, length}
+use Rattle.std.specs.Prelude.{ℕ, ◌+◌, ◌-◌, Bool, false, not, ◌&&◌, ◌==◌, nat_lt, List, length}
 use Rattle.std.specs.Prelude.{filter}
-use Rattle.std.specs.Prelude.{count_by, find, map, Option, Some, None, slice_get, take, drop, if◌then◌else◌}
+use Rattle.std.specs.Prelude.{count_by, find, Option, Some, None, slice_get, take, drop, if◌then◌else◌}
 use Rattle.std.specs.List.{filter_map, list_any, range_with_len}
 use Rattle.std.specs.Option.{option_map}
 use Rattle.trace_base.specs.Stream.{is_enter}
@@ -40,7 +40,8 @@ call_at es i =
 abbrev pub lies_in : Call → Call → Bool
 lies_in c d = nat_lt d.enter c.enter && nat_lt c.leave d.leave
 
--- the calls whose Enter and Leave are among the events from `low` to `high`, not included, in the order of their Enters
+-- the calls whose Enter and Leave are among the events from `low` to `high`, not included, in the order of
+-- their Enters
 abbrev pub calls_within : List Event → ℕ → ℕ → List Call
 calls_within es low high =
     filter (λ c. nat_lt c.leave high) (filter_map (call_at es) (range_with_len low (high - low)))

@@ -4,7 +4,7 @@ use Rattle.std.specs.Prelude.{ℕ, ◌+◌, ◌*◌, List, [], ◌∷◌, ◌++�
 use Rattle.std.specs.List.{flat_map, range_with_len}
 use Rattle.trace_base.specs.declared.stream.Event.TheVariants.{Enter, Leave}
 use Rattle.trace_base.specs.declared.stream.TrackStream.{TrackStream}
-use Rattle.node_key.specs.Tree.{Tree, Kids, no_kids, kid}
+use Rattle.node_key.specs.Tree.{no_kids}
 use Rattle.node_key.specs.declared.item.Item.{Item}
 
 -- n calls of no time, one at each nanosecond

@@ -2,5 +2,6 @@ pub mod Bound
 pub mod Calls
 pub mod Events
 pub mod Examples
+pub mod Laws
 pub mod Passing
 pub mod Trees

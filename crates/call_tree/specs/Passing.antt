@@ -19,7 +19,11 @@ pub record CanClose (innermost : Open) (stop : ℕ) : Type 0 where
 
 -- an open call that ends at this time
 abbrev pub closed_item : Open → ℕ → Item
-closed_item innermost stop = record { at = innermost.start; tree = node innermost.func innermost.start stop (bound innermost.items) }
+closed_item innermost stop = record {
+  at = innermost.start;
+  tree = node innermost.func innermost.start stop
+      (bound innermost.items);
+}
 
 -- the event may come: a Leave closes the innermost call, of which there is one
 abbrev pub MayCome : Event → List Open → Open → Type 0
@@ -32,4 +36,9 @@ Steps around innermost (Enter f t) around' now =
     (around' ≡ around ++ innermost ∷ []) × (now ≡ record { func = f; start = t; items = [] })
 Steps around innermost (Leave t) around' now =
     (outer : Open) × (around ≡ around' ++ outer ∷ [])
-    × (now ≡ record { func = outer.func; start = outer.start; items = outer.items ++ closed_item innermost t ∷ [] })
+    × (now ≡ record {
+      func = outer.func;
+      start = outer.start;
+      items = outer.items ++ closed_item innermost t
+          ∷ [];
+    })

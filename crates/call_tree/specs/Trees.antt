@@ -1,9 +1,9 @@
 -- The tree of a call and the tree of a stream.
-use Rattle.std.specs.Prelude.{ℕ, zero, suc, List, [], ◌∷◌, length, map, Option, Some, None, slice_get}
+use Rattle.std.specs.Prelude.{ℕ, zero, suc, List, [], length, map, Option, Some, slice_get}
 use Rattle.std.specs.Prelude.{slice_index}
 use Rattle.trace_base.specs.Stream.{time_of}
 use Rattle.trace_base.specs.declared.stream.Event.{Event}
-use Rattle.trace_base.specs.declared.stream.Event.TheVariants.{Enter, Leave}
+use Rattle.trace_base.specs.declared.stream.Event.TheVariants.{Enter}
 use Rattle.trace_base.specs.declared.stream.TrackStream.{TrackStream}
 use Rattle.node_key.specs.Tree.{Tree}
 use Rattle.node_key.specs.Items.{node}

@@ -17,14 +17,16 @@ fn close(alloc: Global, innermost: Open, stop: u64) -> Result<Item, Memory>
     let Open { func, start, items } = innermost;
     let bounded = split(alloc, items)?;
     let tree = CallTree::new(alloc, func, start, stop, bounded)?;
-    Ok(Item {
-        at: start,
-        tree,
-    })
+    Ok(Item { at: start, tree })
 }
 
 /// Takes the open calls over one event: `around` has those round the innermost one, which stands by itself.
-fn step(alloc: Global, around: &mut Vec<Open>, innermost: Open, event: Event) -> Result<Open, Memory>
+fn step(
+    alloc: Global,
+    around: &mut Vec<Open>,
+    innermost: Open,
+    event: Event,
+) -> Result<Open, Memory>
     requires { MayCome event around.old.items innermost }
     ensures { IfOk result (λ now. Steps around.old.items innermost event around.new.items now) }
 {
@@ -55,13 +57,18 @@ fn with_item(innermost: Open, item: Item) -> Result<Open, Memory>
       items = innermost.items ++ item ∷ [];
     }) }
 {
-    let Open { func, start, mut items } = innermost;
+    let Open {
+        func,
+        start,
+        mut items,
+    } = innermost;
     items.push(item)?;
     Ok(Open { func, start, items })
 }
 
-/// The bounded tree of a legal stream: the group over its outermost calls, from its start to its end. One pass over the
-/// events, with the calls that are open and what lies in each so far; nothing is copied but items. At most 2,048 high.
+/// The bounded tree of a legal stream: the group over its outermost calls, from its start to its end. One
+/// pass over the events, with the calls that are open and what lies in each so far; nothing is copied but
+/// items. At most 2,048 high.
 pub fn tree_of(alloc: Global, s: &TrackStream) -> Result<CallTree, Memory>
     requires { IsLegal s.now }
     ensures { IfOk result (λ t. t ≡ tree s.now) }

@@ -6,6 +6,7 @@ mod building;
 mod events;
 mod examples;
 mod group;
+mod laws;
 mod pass;
 
 pub use bounding::split;

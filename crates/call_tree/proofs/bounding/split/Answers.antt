@@ -1,7 +1,6 @@
-use Rattle.std.proofs.Common.{◌≡◌, List, length, arith, sym, ap, subst, ◌∙◌}
+use Rattle.std.proofs.Common.{List, length, arith, sym, ap, subst, ◌∙◌}
 use Rattle.node_key.specs.declared.item.Item.{Item}
-use Rattle.call_tree.specs.Bound.{grouped}
-use Rattle.call_tree.proofs.BoundedLists.{Bounding, Bounding-start, Bounding-low, Bounding-more}
+use Rattle.call_tree.proofs.BoundedLists.{Bounding, Bounding-start, Bounding-more}
 use Rattle.call_tree.proofs.Chunks.{length-grouped, bound-few}
 use Rattle.call_tree.proofs.bounding.split.Goals as goal
 

@@ -1,4 +1,4 @@
-use Rattle.std.proofs.Common.{◌≡◌, ◌+◌, ◌-◌, ◌<◌, ◌≤◌, List, length, arith, sym, ap, subst, All}
+use Rattle.std.proofs.Common.{◌+◌, ◌-◌, ◌<◌, ◌≤◌, List, length, arith, sym, ap, subst, All}
 use Rattle.std.proofs.lemmas.List.Elements.{All-weaker}
 use Rattle.node_key.specs.Tree.{height}
 use Rattle.node_key.specs.Items.{FitBetween}
@@ -6,13 +6,15 @@ use Rattle.node_key.specs.declared.item.Item.{Item}
 use Rattle.node_key.specs.declared.limits.TheConstants.{HEIGHT_BOUND, MAX_HEIGHT, MAX_KIDS}
 use Rattle.trace_base.specs.declared.limits.TheConstants.{MAX_TIME}
 use Rattle.call_tree.specs.Bound.{bound}
-use Rattle.call_tree.proofs.Fits.{FitBetween-lower, FitBetween-upper, FitBetween-bound, Low-bound, length-bound-le, eights}
+use Rattle.call_tree.proofs.Fits.{FitBetween-lower, FitBetween-upper, FitBetween-bound, Low-bound}
+use Rattle.call_tree.proofs.Fits.{length-bound-le}
 use Rattle.call_tree.proofs.building.close.Goals as goal
 
 pub split-requires-clause-placed : goal.split-requires-clause-placed
 split-requires-clause-placed c =
     FitBetween-lower 0 c.args.innermost.start MAX_TIME c.args.innermost.items (omega arith)
-    (FitBetween-upper c.args.innermost.start c.args.stop MAX_TIME c.args.innermost.items c.requires.in_time c.requires.placed)
+    (FitBetween-upper c.args.innermost.start c.args.stop MAX_TIME c.args.innermost.items c.requires.in_time
+    c.requires.placed)
 
 pub new-requires-clause-few : goal.new-requires-clause-few
 new-requires-clause-few c =
@@ -30,8 +32,11 @@ new-requires-clause-within c =
 low_items : (is : List Item) → All (λ i. height i.tree ≤ MAX_HEIGHT - MAX_KIDS) is → length is ≤ 4194304
     → All (λ i. height i.tree < HEIGHT_BOUND) (bound is)
 low_items is low few =
-    let bounded = Low-bound 7 0 2047 is (omega (arith, few)) (All-weaker (λ (i : Item). height i.tree ≤ MAX_HEIGHT - MAX_KIDS) (λ (i : Item). height i.tree + (0 + 7) ≤ 2047) (λ i h. omega arith) is low) in
-    All-weaker (λ (i : Item). height i.tree + 0 ≤ 2047) (λ (i : Item). height i.tree < HEIGHT_BOUND) (λ i h. omega arith) (bound is) bounded
+    let bounded = Low-bound 7 0 2047 is (omega (arith, few))
+    (All-weaker (λ (i : Item). height i.tree ≤ MAX_HEIGHT - MAX_KIDS) (λ (i : Item). height i.tree
+    + (0 + 7) ≤ 2047) (λ i h. omega arith) is low) in
+    All-weaker (λ (i : Item). height i.tree + 0 ≤ 2047) (λ (i : Item). height i.tree < HEIGHT_BOUND)
+    (λ i h. omega arith) (bound is) bounded
 
 pub new-requires-clause-low : goal.new-requires-clause-low
 new-requires-clause-low c =

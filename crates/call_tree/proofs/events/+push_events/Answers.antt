@@ -1,9 +1,7 @@
-use Rattle.std.proofs.Common.{◌≡◌, ℕ, ◌+◌, ◌++◌, ◌≤◌, Some, slice_get, arith, subst, sym, ap, refl, List}
+use Rattle.std.proofs.Common.{ℕ, ◌+◌, ◌++◌, slice_get, arith, ap}
 use Rattle.node_key.specs.Branches.{branches}
-use Rattle.node_key.specs.declared.tree.Branch.{Branch}
-use Rattle.trace_base.specs.declared.stream.Event.{Event}
-use Rattle.call_tree.specs.Events.{events, events_below}
-use Rattle.call_tree.proofs.Below.{branch_is, nodes-branch, Writing, Writing-start, Writing-next}
+use Rattle.call_tree.specs.Events.{events_below}
+use Rattle.call_tree.proofs.Below.{branch_is, nodes-branch, Writing-start, Writing-next}
 use Rattle.call_tree.proofs.Below.{Writing-step, Writing-end}
 use Rattle.call_tree.proofs.Below.{events-written}
 use Rattle.call_tree.proofs.events.+push_events.Goals as goal

@@ -1,6 +1,5 @@
-use Rattle.std.proofs.Common.{rules, arith}
+use Rattle.std.proofs.Common.{rules}
 use Rattle.std.specs.Vec.Iter.{into_iter_items}
-use Rattle.node_key.specs.declared.item.Item.{Item}
 use Rattle.call_tree.proofs.Grouping.{Grouping-next, Grouping-more, Grouping-end, has_items}
 use Rattle.call_tree.proofs.group.grouped_of.Goals as goal
 

@@ -1,6 +1,5 @@
-use Rattle.std.proofs.Common.{◌≡◌, ◌+◌, ◌-◌, length, arith, ap, ◌∙◌, sym}
+use Rattle.std.proofs.Common.{◌≡◌, ◌+◌, ◌-◌, length, arith, ap}
 use Rattle.node_key.specs.Items.{end_of}
-use Rattle.node_key.specs.declared.item.Item.{Item}
 use Rattle.trace_base.specs.declared.limits.TheConstants.{MAX_TIME}
 use Rattle.call_tree.specs.Bound.{stop_of}
 use Rattle.call_tree.proofs.Chunks.{stop_of-last}
