@@ -10,3 +10,4 @@ pub mod Passing
 pub mod Positions
 pub mod StreamTrees
 pub mod TheLaw
+pub mod TreeBounds

@@ -1,4 +1,5 @@
 pub mod Bound
+pub mod Bounds
 pub mod Calls
 pub mod Events
 pub mod Examples
