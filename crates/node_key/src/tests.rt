@@ -1,42 +1,21 @@
-use crate::{CallTree, Item, Kid, NodeKey, room_of_key, room_of_number};
-use std::alloc::Global;
+use crate::{CallTree, Kid, NodeKey, room_of_key, room_of_number};
 use std::test::Fail;
-use trace_base::{Memory, Seq};
-
-/// The items, in order.
-fn list_of(alloc: Global, first: Item, second: Item) -> Result<Seq<Item>, Memory> {
-    let mut items = Seq::new(alloc);
-    items.push(first)?;
-    items.push(second)?;
-    Ok(items)
-}
+use trace_base::Seq;
 
 #[test]
-fn a_node_tells_its_parts_and_so_does_its_copy(rt: HostRuntime) -> Result<(), Fail> {
+fn a_leaf_tells_its_parts_and_so_does_its_copy(rt: HostRuntime) -> Result<(), Fail> {
     let alloc = rt.alloc();
-    let first = Item {
-        at: 13,
-        tree: CallTree::new(alloc, 2, 13, 15, Seq::new(alloc))?,
-    };
-    let second = Item {
-        at: 16,
-        tree: CallTree::new(alloc, 3, 16, 16, Seq::new(alloc))?,
-    };
-    let tree = CallTree::new(alloc, 1, 10, 20, list_of(alloc, first, second)?)?;
-    let copy = tree.copy()?;
-    for t in [&tree, &copy] {
-        assert_eq!(rt; (t.func(), t.dur(), t.height(), t.len()), (1, 10, 1, 2));
-        assert_eq!(rt; t.is_empty(), false);
-        assert_eq!(rt; (t.gap(0), t.gap(1)), (3, 1));
-        assert_eq!(rt;
-            (t.kid(0).func(), t.kid(0).dur(), t.kid(0).height()),
-            (2, 2, 0)
-        );
-        assert_eq!(rt;
-            (t.kid(1).func(), t.kid(1).dur(), t.kid(1).is_empty()),
-            (3, 0, true)
-        );
-    }
+    let leaf = CallTree::new(alloc, 2, 13, 15, Seq::new(alloc))?;
+    let copy = leaf.copy()?;
+    assert_eq!(rt;
+        (leaf.func(), leaf.dur(), leaf.height(), leaf.len()),
+        (2, 2, 0, 0)
+    );
+    assert_eq!(rt;
+        (copy.func(), copy.dur(), copy.height(), copy.len()),
+        (2, 2, 0, 0)
+    );
+    assert!(rt; copy.is_empty());
     Ok(())
 }
 
