@@ -18,11 +18,11 @@ loop-at-preserved c =
     record {
       placed = subst (λ (l : List Item). FitBetween 0 (at + 1) l) (sym c.in_ok-push.ensures.ok)
           (FitBetween-push 0 at (at + 1) c.loop-at.items i c.loop-at.invariant.placed (omega arith)
-              (omega (arith, dur)));
+          (omega (arith, dur)));
       low = subst (λ (l : List Item). All (λ i. height i.tree ≤ MAX_HEIGHT - MAX_KIDS) l)
           (sym c.in_ok-push.ensures.ok)
           (All-push (λ (i : Item). height i.tree ≤ MAX_HEIGHT - MAX_KIDS) c.loop-at.items i
-              c.loop-at.invariant.low (omega (arith, high)));
+          c.loop-at.invariant.low (omega (arith, high)));
     }
 
 pub returns-clause-placed : goal.returns-clause-placed
