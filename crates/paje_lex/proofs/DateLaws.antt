@@ -39,7 +39,7 @@ digits_front (b ∷ bs) = digits_first b bs (digits_front bs) (is_ascii_digit b)
 
 digits_append : (a b : List ℕ) → AreDigits a → AreDigits b → AreDigits (a ++ b)
 digits_append [] b x y = y
-digits_append (c ∷ a) b x y = (x.0, digits_append a b x.1 y)
+digits_append (c ∷ a) b (first, x) y = (first, digits_append a b x y)
 
 fraction_digits : (bytes : List ℕ) → AreDigits (unwrap_or (fraction_of bytes) [])
 fraction_digits [] = tt
@@ -202,15 +202,15 @@ prefix_of : (whole tail : List ℕ) → AreDigits whole → FirstFails is_ascii_
     → prefix_len is_ascii_digit (whole ++ tail) ≡ length whole
 prefix_of [] [] are first = refl
 prefix_of [] (b ∷ bs) are first = rw first refl
-prefix_of (c ∷ whole) tail are first = rw are.0 (let e = prefix_of whole tail are.1 first in omega arith)
+prefix_of (c ∷ whole) tail (is, are) first = rw is (let e = prefix_of whole tail are first in omega arith)
 
 digits_left : (a b : List ℕ) → AreDigits (a ++ b) → AreDigits a
 digits_left [] b are = tt
-digits_left (c ∷ a) b are = (are.0, digits_left a b are.1)
+digits_left (c ∷ a) b (is, are) = (is, digits_left a b are)
 
 digits_right : (a b : List ℕ) → AreDigits (a ++ b) → AreDigits b
 digits_right [] b are = are
-digits_right (c ∷ a) b are = digits_right a b are.1
+digits_right (c ∷ a) b (is, are) = digits_right a b are
 
 letter_fails : (p : ℕ → Bool) (b : ℕ) → p 101 ≡ false → p 69 ≡ false → (b ≡ 101) ⊎ (b ≡ 69) → p b ≡ false
 letter_fails p b x y (inl e) = ap p e ∙ x
@@ -240,14 +240,14 @@ fraction_back (Some ds) e are is = ap Some
 first_of_digits : (bytes rest : List ℕ) → AreDigits bytes → FirstFails is_sign rest
     → FirstFails is_sign (bytes ++ rest)
 first_of_digits [] rest are first = first
-first_of_digits (b ∷ bs) rest are first = digit_no_sign b are.0
+first_of_digits (b ∷ bs) rest (is, are) first = digit_no_sign b is
 
 body_starts : (whole : List ℕ) (fraction : Option (List ℕ)) (e : Option Exponent) → AreDigits whole
     → 0 < length (whole ++ unwrap_or fraction [])
     → FirstFails is_sign (whole ++ (fraction_text fraction ++ exponent_text e))
 body_starts [] None e are some = absurd (omega arith)
 body_starts [] (Some ds) e are some = refl
-body_starts (c ∷ whole) fraction e are some = digit_no_sign c are.0
+body_starts (c ∷ whole) fraction e (is, are) some = digit_no_sign c is
 
 letter_true : (b : ℕ) → (b ≡ 101) ⊎ (b ≡ 69) → is_exponent_letter b ≡ true
 letter_true b (inl e) = let P : ℕ → Type 0 = λ x. is_exponent_letter x ≡ true in subst P (sym e) refl
@@ -255,7 +255,7 @@ letter_true b (inr e) = let P : ℕ → Type 0 = λ x. is_exponent_letter x ≡ 
 
 all_true : (bytes : List ℕ) → AreDigits bytes → list_all is_ascii_digit bytes ≡ true
 all_true [] are = refl
-all_true (b ∷ bs) are = rw are.0 (all_true bs are.1)
+all_true (b ∷ bs) (is, are) = rw is (all_true bs are)
 
 digits_ok : (ds : List ℕ) → AreDigits ds → 0 < length ds → length ds ≤ 4 → digits_value 10 ds ≤ 30
     → are_exponent_digits ds ≡ true
@@ -284,7 +284,7 @@ exponent_back (Some e) is =
   where
     no_sign_digits : (bytes : List ℕ) → AreDigits bytes → FirstFails is_sign bytes
     no_sign_digits [] are = tt
-    no_sign_digits (b ∷ bs) are = digit_no_sign b are.0
+    no_sign_digits (b ∷ bs) (is, are) = digit_no_sign b is
 
     exponent_made : (letter : ℕ) (sign digits : List ℕ) (x y : Bool) → x ≡ true → y ≡ true
         → cond x (option_map {T = Exponent} Some

@@ -45,9 +45,9 @@ pub scan_plain : (word rest : List ℕ) (from at : ℕ) → NoBlanks word → En
     → scan (Plain from) at (word ++ rest) ≡ joined (token from (at + length word) ∷ [])
     (scan Between (at + length word) rest)
 scan_plain [] rest from at none e = rw (add-zero at) (plain_end rest from at e)
-scan_plain (c ∷ word) rest from at none e =
-    rw none.0 (joined_nothing (scan (Plain from) (at + 1) (word ++ rest)) ∙
-    (scan_plain word rest from (at + 1) none.1 e
+scan_plain (c ∷ word) rest from at (first, none) e =
+    rw first (joined_nothing (scan (Plain from) (at + 1) (word ++ rest)) ∙
+    (scan_plain word rest from (at + 1) none e
     ∙ ap (λ n. joined (token from n ∷ []) (scan Between n rest)) (places at (length word))))
   where
     places : (at n : ℕ) → at + 1 + n ≡ at + suc n
@@ -57,9 +57,9 @@ pub scan_quoted : (word rest : List ℕ) (quote at : ℕ) → NoQuotes word
     → scan (Quoted quote) at (word ++ 34 ∷ rest) ≡ joined (token (quote + 1) (at + length word) ∷ [])
     (scan Between (at + length word + 1) rest)
 scan_quoted [] rest quote at none = rw (add-zero at) refl
-scan_quoted (c ∷ word) rest quote at none =
-    rw none.0 (joined_nothing (scan (Quoted quote) (at + 1) (word ++ 34 ∷ rest)) ∙
-    (scan_quoted word rest quote (at + 1) none.1
+scan_quoted (c ∷ word) rest quote at (first, none) =
+    rw first (joined_nothing (scan (Quoted quote) (at + 1) (word ++ 34 ∷ rest)) ∙
+    (scan_quoted word rest quote (at + 1) none
     ∙ ap (λ n. joined (token (quote + 1) n ∷ []) (scan Between (n + 1) rest)) (places at (length word))))
   where
     places : (at n : ℕ) → at + 1 + n ≡ at + suc n
@@ -68,8 +68,8 @@ scan_quoted (c ∷ word) rest quote at none =
 pub scan_open : (word : List ℕ) (quote at : ℕ) → NoQuotes word
     → scan (Quoted quote) at word ≡ Err (OpenQuote quote)
 scan_open [] quote at none = refl
-scan_open (c ∷ word) quote at none = rw none.0 (joined_nothing (scan (Quoted quote) (at + 1) word) ∙ scan_open
-    word quote (at + 1) none.1)
+scan_open (c ∷ word) quote at (first, none) =
+    rw first (joined_nothing (scan (Quoted quote) (at + 1) word) ∙ scan_open word quote (at + 1) none)
 
 -- ---- what reading makes of many pieces
 
@@ -84,7 +84,7 @@ Ready (plain word ∷ (p ∷ ps)) rest = Ready (p ∷ ps) rest
 plain_ready : (word : List ℕ) (ps : List Piece) (rest : List ℕ) → MayStandBefore (plain word) ps
     → ArePieces ps → Ready (plain word ∷ ps) rest → EndsPlain (pieces_text ps ++ rest)
 plain_ready word [] rest follows are ready = ready
-plain_ready word (blank b ∷ ps) rest follows are ready = are.0
+plain_ready word (blank b ∷ ps) rest follows (is, after, are) ready = is
 plain_ready word (quoted more ∷ ps) rest follows are ready = absurd follows
 plain_ready word (plain more ∷ ps) rest follows are ready = absurd follows
 
@@ -95,7 +95,7 @@ ready_rest word (p ∷ ps) rest ready = ready
 begin_plain : (word rest : List ℕ) (at : ℕ) → IsPlain word → scan Between at (word ++ rest) ≡ scan
     (Plain at) at (word ++ rest)
 begin_plain [] rest at is = absurd is
-begin_plain (c ∷ word) rest at is = rw (is.1.0, is.0) refl
+begin_plain (c ∷ word) rest at (unquoted, (unblank, none)) = rw (unblank, unquoted) refl
 
 around : (word text rest : List ℕ) → ((word ++ 34 ∷ []) ++ text) ++ rest ≡ word ++ 34 ∷ (text ++ rest)
 around word text rest = simp append_assoc
@@ -108,38 +108,38 @@ pub scan_pieces : (ps : List Piece) (rest : List ℕ) (at : ℕ) → ArePieces p
     → scan Between at (pieces_text ps ++ rest) ≡ joined (tokens_from at ps)
     (scan Between (at + length (pieces_text ps)) rest)
 scan_pieces [] rest at are ready = rw (add-zero at) (sym (joined_nothing (scan Between at rest)))
-scan_pieces (blank b ∷ ps) rest at are ready =
-    rw are.0 (joined_nothing (scan Between (at + 1) (pieces_text ps ++ rest)) ∙
-    (scan_pieces ps rest (at + 1) are.2 ready
+scan_pieces (blank b ∷ ps) rest at (is, follows, are) ready =
+    rw is (joined_nothing (scan Between (at + 1) (pieces_text ps ++ rest)) ∙
+    (scan_pieces ps rest (at + 1) are ready
     ∙ ap (λ n. joined (tokens_from (at + 1) ps) (scan Between n rest)) (places at (length (pieces_text ps)))))
   where
     places : (at n : ℕ) → at + 1 + n ≡ at + suc n
     places at n = omega arith
-scan_pieces (quoted word ∷ ps) rest at are ready =
+scan_pieces (quoted word ∷ ps) rest at (is, follows, are) ready =
     let text = pieces_text ps in
     ap (λ bytes. joined [] (scan (Quoted at) (at + 1) bytes)) (around word text rest)
     ∙ (joined_nothing (scan (Quoted at) (at + 1) (word ++ 34 ∷ (text ++ rest)))
-    ∙ (scan_quoted word (text ++ rest) at (at + 1) are.0
+    ∙ (scan_quoted word (text ++ rest) at (at + 1) is
     ∙ (ap (joined (token (at + 1) (at + 1 + length word) ∷ []))
-    (scan_pieces ps rest (at + 1 + length word + 1) are.2 ready)
+    (scan_pieces ps rest (at + 1 + length word + 1) are ready)
     ∙ (joined_twice (token (at + 1) (at + 1 + length word) ∷ []) (tokens_from (at + 1 + length word + 1) ps)
     (scan Between (at + 1 + length word + 1 + length text) rest)
     ∙ ap (λ n. joined (tokens_from at (quoted word ∷ ps)) (scan Between n rest)) (quoted_len word text at)))))
-scan_pieces (plain word ∷ ps) rest at are ready =
+scan_pieces (plain word ∷ ps) rest at (is, follows, are) ready =
     let text = pieces_text ps in
     ap (scan Between at) (append_assoc word text rest)
-    ∙ (begin_plain word (text ++ rest) at are.0
-    ∙ (scan_plain word (text ++ rest) at at (blankless word are.0)
-    (plain_ready word ps rest are.1 are.2 ready)
+    ∙ (begin_plain word (text ++ rest) at is
+    ∙ (scan_plain word (text ++ rest) at at (blankless word is)
+    (plain_ready word ps rest follows are ready)
     ∙ (ap (joined (token at (at + length word) ∷ []))
-    (scan_pieces ps rest (at + length word) are.2 (ready_rest word ps rest ready))
+    (scan_pieces ps rest (at + length word) are (ready_rest word ps rest ready))
     ∙ (joined_twice (token at (at + length word) ∷ []) (tokens_from (at + length word) ps)
     (scan Between (at + length word + length text) rest)
     ∙ ap (λ n. joined (tokens_from at (plain word ∷ ps)) (scan Between n rest)) (plain_len word text at)))))
   where
     blankless : (word : List ℕ) → IsPlain word → NoBlanks word
     blankless [] is = absurd is
-    blankless (c ∷ word) is = is.1
+    blankless (c ∷ word) (unquoted, none) = none
 
     plain_len : (word text : List ℕ) (at : ℕ) → at + length word + length text ≡ at + length (word ++ text)
     plain_len word text at = simp length-append (omega arith)
@@ -153,10 +153,10 @@ ready_end (plain word ∷ (p ∷ ps)) = ready_end (p ∷ ps)
 
 ready_open : (ps : List Piece) (rest : List ℕ) → ArePieces (ps ++ quoted [] ∷ []) → Ready ps (34 ∷ rest)
 ready_open [] rest are = tt
-ready_open (blank b ∷ ps) rest are = ready_open ps rest are.2
-ready_open (quoted word ∷ ps) rest are = ready_open ps rest are.2
-ready_open (plain word ∷ []) rest are = absurd are.1
-ready_open (plain word ∷ (p ∷ ps)) rest are = ready_open (p ∷ ps) rest are.2
+ready_open (blank b ∷ ps) rest (is, follows, are) = ready_open ps rest are
+ready_open (quoted word ∷ ps) rest (is, follows, are) = ready_open ps rest are
+ready_open (plain word ∷ []) rest (is, follows, are) = absurd follows
+ready_open (plain word ∷ (p ∷ ps)) rest (is, follows, are) = ready_open (p ∷ ps) rest are
 
 follow_front : (p : Piece) (ps more : List Piece) → MayStandBefore p (ps ++ more) → MayStandBefore p ps
 follow_front (blank b) ps more follows = tt
@@ -168,7 +168,7 @@ follow_front (plain word) (plain w ∷ ps) more follows = follows
 
 pieces_front : (ps more : List Piece) → ArePieces (ps ++ more) → ArePieces ps
 pieces_front [] more are = tt
-pieces_front (p ∷ ps) more are = (are.0, follow_front p ps more are.1, pieces_front ps more are.2)
+pieces_front (p ∷ ps) more (is, follows, are) = (is, follow_front p ps more follows, pieces_front ps more are)
 
 pub scan_cut : (bytes : List ℕ) (ps : List Piece) (at : ℕ) → IsCut bytes ps
     → scan Between at bytes ≡ Ok (tokens_from at ps)
