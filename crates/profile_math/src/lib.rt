@@ -1,0 +1,4 @@
+//! Sums of profiles: two profiles added, and the profile of a call over the profile of what it encloses.
+#![tactic(auto)]
+
+mod merging;
