@@ -1,2 +1,4 @@
 pub mod Keyed
 pub mod MergeSteps
+pub mod RowClosings
+pub mod RowSums

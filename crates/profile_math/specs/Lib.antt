@@ -1,3 +1,4 @@
+pub mod Closing
 pub mod InOrder
 pub mod Merging
 pub mod Sum

@@ -1,7 +1,8 @@
 -- The sum of two flat profiles, by function.
-use Rattle.std.specs.Prelude.{ℕ, ◌+◌, ◌^◌, ◌<◌, ◌==◌, List, ◌++◌, map, filter, sum_by, All}
+use Rattle.std.specs.Prelude.{ℕ, ◌+◌, ◌^◌, ◌<◌, ◌==◌, List, ◌++◌, map, filter, sum_by, length, All}
 use Rattle.std.specs.List.Sorted.{IsStrictlySortedBy}
 use Rattle.std.specs.Ordering.{nat_cmp}
+use Rattle.std.specs.declared.cmp.Ordering.{Ordering}
 use Rattle.profile_math.specs.InOrder.{in_order}
 use Rattle.trace_base.specs.declared.profile.Row.{Row}
 use Rattle.trace_base.specs.declared.profile.Profile.{Profile}
@@ -27,6 +28,19 @@ functions_of rows = in_order nat_cmp (map (λ r. r.func) rows)
 unfoldable pub by_function : List Row → List Row
 by_function rows = map (λ f. row_total f (rows_for f rows)) (functions_of rows)
 
+-- which of two rows stands first: that of the lower function
+abbrev pub row_place : Row → Row → Ordering
+row_place r s = nat_cmp r.func s.func
+
+-- two rows of one function, added
+abbrev pub row_plus : Row → Row → Row
+row_plus r s = record {
+  func = r.func;
+  calls = r.calls + s.calls;
+  incl = r.incl + s.incl;
+  excl = r.excl + s.excl;
+}
+
 -- the sum of two profiles
 unfoldable pub sum_of : Profile → Profile → Profile
 sum_of p q = record { bare = p.bare + q.bare; rows = by_function (p.rows ++ q.rows) }
@@ -42,3 +56,7 @@ RowFits r = (r.calls < 2 ^ 64) × (r.incl < 2 ^ 128) × (r.excl < 2 ^ 128)
 -- the numbers of the profile fit their types
 abbrev pub ProfileFits : Profile → Type 0
 ProfileFits p = (p.bare < 2 ^ 128) × All RowFits p.rows
+
+-- how many rows the profile has
+abbrev pub row_count : Profile → ℕ
+row_count p = length p.rows
