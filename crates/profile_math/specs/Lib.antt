@@ -1,4 +1,5 @@
 pub mod Closing
 pub mod InOrder
+pub mod Laws
 pub mod Merging
 pub mod Sum

@@ -2,7 +2,9 @@
 #![tactic(auto)]
 
 mod flat;
+mod laws;
 mod merging;
 mod sums;
 
+pub use laws::{flat_in_order, flat_of_intervals, flat_of_streams};
 pub use sums::Sums;

@@ -1,0 +1,35 @@
+-- What the sum and the closing of profiles have to do with the profiles of streams. Any interval is half-open.
+use Rattle.std.specs.Prelude.{◌≡◌, ℕ, ◌≤◌, List, [], ◌∷◌, ◌++◌}
+use Rattle.trace_base.specs.Flat.{flat, is_within}
+use Rattle.trace_base.specs.Stream.{IsLegal}
+use Rattle.trace_base.specs.declared.stream.Event.TheVariants.{Enter, Leave}
+use Rattle.trace_base.specs.declared.stream.TrackStream.{TrackStream}
+use Rattle.profile_math.specs.Closing.{closed}
+use Rattle.profile_math.specs.Sum.{sum_of, RisesByFunction}
+
+-- the profile of several streams is the sum of each one's
+abbrev pub FlatOfStreams : Type 0
+FlatOfStreams = (streams more : List TrackStream) (a b : ℕ)
+    → flat (streams ++ more) a b ≡ sum_of (flat streams a b) (flat more a b)
+
+-- the profile of two intervals, one after the other, is the sum of theirs
+abbrev pub FlatOfIntervals : Type 0
+FlatOfIntervals = (streams : List TrackStream) (a b c : ℕ) → a ≤ b → b ≤ c
+    → flat streams a c ≡ sum_of (flat streams a b) (flat streams b c)
+
+-- the stream of one call of the function, from just before its Enter to its Leave, which encloses the stream
+abbrev pub call_of : ℕ → TrackStream → TrackStream
+call_of f inner = record {
+  start = inner.start;
+  end = inner.end;
+  events = Enter f inner.start ∷ (inner.events ++ Leave inner.end ∷ []);
+}
+
+-- the profile of a call is the closing of the profile of what it encloses
+abbrev pub FlatOfCall : Type 0
+FlatOfCall = (inner : TrackStream) (f a b : ℕ) → IsLegal inner → 1 ≤ f
+    → flat (call_of f inner ∷ []) a b ≡ closed f (is_within a b inner.start) (flat (inner ∷ []) a b)
+
+-- the rows of a flat profile rise by function, so that it can be added to
+abbrev pub FlatRises : Type 0
+FlatRises = (streams : List TrackStream) (a b : ℕ) → RisesByFunction (flat streams a b).rows

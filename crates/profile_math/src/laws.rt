@@ -1,0 +1,21 @@
+//! What the sum and the closing of profiles have to do with the profiles of streams. The bodies are empty.
+ghost use Rattle.profile_math.specs.Laws.{FlatOfStreams, FlatOfIntervals, FlatRises};
+
+/// The flat profile of several streams is the sum of each one's.
+#[tactic(auto, using(crate::proofs::FlatLaws::laws))]
+pub fn flat_of_streams()
+    ensures { FlatOfStreams }
+{}
+
+/// The flat profile of two intervals of some streams, one after the other, is the sum of theirs: each call counts in
+/// the one in which it begins.
+#[tactic(auto, using(crate::proofs::FlatLaws::laws))]
+pub fn flat_of_intervals()
+    ensures { FlatOfIntervals }
+{}
+
+/// The rows of a flat profile rise by function, so that it can be added to and closed.
+#[tactic(auto, using(crate::proofs::FlatLaws::laws))]
+pub fn flat_in_order()
+    ensures { FlatRises }
+{}
