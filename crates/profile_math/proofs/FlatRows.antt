@@ -31,11 +31,11 @@ pub standing-is : (row : ℕ → Row) (n : ℕ) → standing row n ≡ filter st
 unfolding standing
 standing-is row n = refl
 
-standing-zero : (row : ℕ → Row) → standing row 0 ≡ []
+pub standing-zero : (row : ℕ → Row) → standing row 0 ≡ []
 unfolding standing
 standing-zero row = refl
 
-standing-suc : (row : ℕ → Row) (n : ℕ) → standing row (suc n) ≡ standing row n ++ kept (row (n + 1))
+pub standing-suc : (row : ℕ → Row) (n : ℕ) → standing row (suc n) ≡ standing row n ++ kept (row (n + 1))
 unfolding standing
 standing-suc row n = subst (λ m. filter stands (map row (range_with_len 1 m)) ≡ standing row n ++ kept (row (n + 1)))
     (add-one n) (filter_of_map_range_with_len_more stands row 1 n (n + 1) (omega arith))
@@ -52,7 +52,7 @@ own-at f r n =
     cond_both (stands r) (r ∷ []) [] (λ us. at nat_cmp func_of f us ≡ us)
     (λ e. cond-true (is_eq (nat_cmp r.func f)) (r ∷ []) [] yes) (λ e. refl)
 
-at-append : (f : ℕ) (xs ys : List Row) → at nat_cmp func_of f (xs ++ ys) ≡ at nat_cmp func_of f xs
+pub at-append : (f : ℕ) (xs ys : List Row) → at nat_cmp func_of f (xs ++ ys) ≡ at nat_cmp func_of f xs
     ++ at nat_cmp func_of f ys
 at-append f xs ys = filter-append (λ r. is_eq (nat_cmp r.func f)) xs ys
 
@@ -185,7 +185,7 @@ empty-row r f e w s =
     ∙ ap (λ n. let x : Row = record { func = f; calls = 0; incl = n; excl = r.excl } in x) e2
     ∙ ap (λ n. let x : Row = record { func = f; calls = 0; incl = 0; excl = n } in x) e3
 
-kept-yes : (r : Row) → stands r ≡ true → kept r ≡ r ∷ []
+pub kept-yes : (r : Row) → stands r ≡ true → kept r ≡ r ∷ []
 kept-yes r e = cond-true (stands r) (r ∷ []) [] e
 
 pub kept-no : (r : Row) → stands r ≡ false → kept r ≡ []
@@ -235,7 +235,7 @@ kept-plus x y f ex ey wx wy =
     or_both a b e g = ap (λ c. c || b) e ∙ g
 
 -- the row of the function, where it stands, whether or not it is one of the first n
-at-any : (row : ℕ → Row) → ((k : ℕ) → (row k).func ≡ k) → (n f : ℕ) → 0 < f → (n < f → stands (row f) ≡ false)
+pub at-any : (row : ℕ → Row) → ((k : ℕ) → (row k).func ≡ k) → (n f : ℕ) → 0 < f → (n < f → stands (row f) ≡ false)
     → at nat_cmp func_of f (standing row n) ≡ kept (row f)
 at-any row own n f h past =
     elim (cases_lt n f) [

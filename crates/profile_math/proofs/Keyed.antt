@@ -133,7 +133,7 @@ less-from Less e = refl
 less-from Equal e = cc
 less-from Greater e = cc
 
-all_passed : {X : Type 0} (p : X → Bool) (xs : List X) → AllByRecursion (λ x. p x ≡ true) (filter p xs)
+pub all_passed : {X : Type 0} (p : X → Bool) (xs : List X) → AllByRecursion (λ x. p x ≡ true) (filter p xs)
 all_passed p [] = tt
 all_passed p (x ∷ xs) = cond_both (p x) (x ∷ filter p xs) (filter p xs) (AllByRecursion (λ y. p y ≡ true))
     (λ e. (e, all_passed p xs)) (λ e. all_passed p xs)
@@ -179,7 +179,7 @@ unfolding in_order
 in_order-climbs cmp o [] = tt
 in_order-climbs cmp o (k ∷ ks) = put-climbs cmp o k (in_order cmp ks) (in_order-climbs cmp o ks)
 
-filter_filter_same : {X : Type 0} (p q : X → Bool) → ((x : X) → p x ≡ true → q x ≡ true) → (xs : List X)
+pub filter_filter_same : {X : Type 0} (p q : X → Bool) → ((x : X) → p x ≡ true → q x ≡ true) → (xs : List X)
     → filter p (filter q xs) ≡ filter p xs
 filter_filter_same p q h [] = refl
 filter_filter_same {X} p q h (x ∷ xs) =
@@ -192,7 +192,7 @@ filter_filter_same {X} p q h (x ∷ xs) =
           (false_from_ne_true (p x) (λ k. true≢false (sym (h x k) ∙ e))))
     ]
 
-filter_filter_none : {X : Type 0} (p q : X → Bool) → ((x : X) → p x ≡ true → q x ≡ false) → (xs : List X)
+pub filter_filter_none : {X : Type 0} (p q : X → Bool) → ((x : X) → p x ≡ true → q x ≡ false) → (xs : List X)
     → filter p (filter q xs) ≡ []
 filter_filter_none p q h [] = refl
 filter_filter_none p q h (x ∷ xs) =

@@ -1,7 +1,10 @@
+pub mod CallTimes
+pub mod FlatCalls
 pub mod FlatLaws
 pub mod FlatRows
 pub mod Keyed
 pub mod MergeSteps
 pub mod RowClosings
 pub mod RowSums
+pub mod Shares
 pub mod Times
