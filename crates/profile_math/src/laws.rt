@@ -1,5 +1,5 @@
 //! What the sum and the closing of profiles have to do with the profiles of streams. The bodies are empty.
-ghost use Rattle.profile_math.specs.Laws.{FlatOfStreams, FlatOfIntervals, FlatRises};
+ghost use Rattle.profile_math.specs.Laws.{FlatOfStreams, FlatOfIntervals, FlatOfCall, FlatRises};
 
 /// The flat profile of several streams is the sum of each one's.
 #[tactic(auto, using(crate::proofs::FlatLaws::laws))]
@@ -12,6 +12,13 @@ pub fn flat_of_streams()
 #[tactic(auto, using(crate::proofs::FlatLaws::laws))]
 pub fn flat_of_intervals()
     ensures { FlatOfIntervals }
+{}
+
+/// The flat profile of a call, from just before it is entered to where it is left, is the closing of the profile of what
+/// it encloses, over any interval: the call counts where it begins within the interval.
+#[tactic(auto, using(crate::proofs::FlatCalls::flat_call))]
+pub fn flat_of_call()
+    ensures { FlatOfCall }
 {}
 
 /// The rows of a flat profile rise by function, so that it can be added to and closed.

@@ -6,5 +6,5 @@ mod laws;
 mod merging;
 mod sums;
 
-pub use laws::{flat_in_order, flat_of_intervals, flat_of_streams};
+pub use laws::{flat_in_order, flat_of_call, flat_of_intervals, flat_of_streams};
 pub use sums::Sums;
