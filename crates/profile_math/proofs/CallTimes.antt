@@ -1,11 +1,14 @@
 -- Times and calls of the stream of one call, by those of the stream that it encloses.
-use Rattle.std.proofs.Common.{◌≡◌, ◌≢◌, ℕ, ◌+◌, ◌-◌, ◌<◌, ◌≤◌, ◌==◌, zero, suc, Bool, true, false, cond, ◌&&◌, ◌||◌, List}
-use Rattle.std.proofs.Common.{[], ◌∷◌, ◌++◌, length, take, get_or, map, filter, fold, sum_by, count_by, min, max, refl, ap}
+use Rattle.std.proofs.Common.{◌≡◌, ◌≢◌, ℕ, ◌+◌, ◌-◌, ◌<◌, ◌≤◌, ◌==◌, zero, suc, Bool, true, false, cond, ◌&&◌}
+use Rattle.std.proofs.Common.{◌||◌, List}
+use Rattle.std.proofs.Common.{[], ◌∷◌, ◌++◌, length, take, get_or, map, filter, fold, sum_by, count_by, min}
+use Rattle.std.proofs.Common.{max, refl, ap}
 use Rattle.std.proofs.Common.{nat_le, nat_lt, sym, subst, ◌∙◌, inl, inr, arith, zero-add, add-zero, add-one}
 use Rattle.std.proofs.Common.{slice_get, Some, length-append, append-nil}
 use Rattle.std.specs.List.{AllByRecursion, range_with_len}
 use Rattle.std.proofs.lemmas.Bool.{cases_lt}
-use Rattle.std.proofs.lemmas.List.{map-append, take-append-le, get_or_append_left, get_or_at, length-map, take_all}
+use Rattle.std.proofs.lemmas.List.{map-append, take-append-le, get_or_append_left, get_or_at, length-map}
+use Rattle.std.proofs.lemmas.List.{take_all}
 use Rattle.std.proofs.lemmas.List.Sums.{sum_by-cons, sum_by-append, fold_more}
 use Rattle.std.proofs.lemmas.Option.{slice_get-get_or}
 use Rattle.trace_base.proofs.Ranges.{range_with_len-more}
@@ -21,7 +24,8 @@ use Rattle.profile_math.proofs.Times.{sum_by-filter, sum_by-same}
 part : (List ℕ → Bool) → ℕ → ℕ → TrackStream → ℕ → ℕ
 part has a b s i = cond (has (stack_after (take i s.events))) (clip a b (piece s i)) 0
 
-sum_by-map : {X Y : Type 0} (f : Y → ℕ) (g : X → Y) (xs : List X) → sum_by f (map g xs) ≡ sum_by (λ x. f (g x)) xs
+sum_by-map : {X Y : Type 0} (f : Y → ℕ) (g : X → Y) (xs : List X)
+    → sum_by f (map g xs) ≡ sum_by (λ x. f (g x)) xs
 sum_by-map f g [] = refl
 sum_by-map f g (x ∷ xs) = sum_by-cons f (g x) (map g xs) ∙ ap (λ n. f (g x) + n) (sum_by-map f g xs)
     ∙ sym (sum_by-cons (λ y. f (g y)) x xs)
@@ -38,11 +42,15 @@ range-same : (f g : ℕ → ℕ) (a n : ℕ) → ((i : ℕ) → a ≤ i → i < 
     → sum_by f (range_with_len a n) ≡ sum_by g (range_with_len a n)
 range-same f g a zero h = refl
 range-same f g a (suc n) h = sum_by-cons f a (range_with_len (a + 1) n)
-    ∙ omega (arith, h a (omega arith) (omega arith),
-    range-same f g (a + 1) n (λ i l m. h i (omega arith) (omega arith)))
+    ∙ omega (
+      arith,
+      h a (omega arith) (omega arith),
+      range-same f g (a + 1) n (λ i l m. h i (omega arith) (omega arith)),
+    )
     ∙ sym (sum_by-cons g a (range_with_len (a + 1) n))
 
-range-next : (f : ℕ → ℕ) (a n : ℕ) → sum_by f (range_with_len (a + 1) n) ≡ sum_by (λ i. f (i + 1)) (range_with_len a n)
+range-next : (f : ℕ → ℕ) (a n : ℕ) → sum_by f (range_with_len (a + 1) n) ≡ sum_by (λ i. f (i + 1))
+    (range_with_len a n)
 range-next f a zero = refl
 range-next f a (suc n) = sum_by-cons f (a + 1) (range_with_len (a + 1 + 1) n)
     ∙ ap (λ m. f (a + 1) + m) (range-next f (a + 1) n)
@@ -64,7 +72,8 @@ stack-under f s legal zero h = refl
 stack-under f s legal (suc i) h =
     let d : Event = Leave 0 in
     let l : i < length s.events = omega arith in
-    subst (λ n. fold stack_step (f ∷ []) (take n s.events) ≡ f ∷ fold stack_step [] (take n s.events)) (add-one i)
+    subst (λ n. fold stack_step (f ∷ []) (take n s.events) ≡ f ∷ fold stack_step [] (take n s.events))
+    (add-one i)
     (fold_more stack_step (f ∷ []) s.events i d l
     ∙ ap (λ (q : List ℕ). stack_step q (get_or s.events i d)) (stack-under f s legal i (omega arith))
     ∙ step-under f (fold stack_step [] (take i s.events)) (get_or s.events i d)
@@ -82,12 +91,18 @@ stack-call f s legal i h =
 
 -- the moments of the call are those of the stream between its start and its end once more
 moments-call : (f : ℕ) (s : TrackStream) → moments (call_of f s) ≡ s.start ∷ (moments s ++ s.end ∷ [])
-moments-call f s = ap (λ us. s.start ∷ s.start ∷ (us ++ s.end ∷ [])) (map-append time_of s.events (Leave s.end ∷ []))
+moments-call f s = ap (λ us. s.start ∷ s.start ∷ (us ++ s.end ∷ []))
+    (map-append time_of s.events (Leave s.end ∷ []))
 
 length-moments : (s : TrackStream) → length (moments s) ≡ length s.events + 2
-length-moments s = omega (arith, length-append (map time_of s.events) (s.end ∷ []), length-map s.events time_of)
+length-moments s = omega (
+  arith,
+  length-append (map time_of s.events) (s.end ∷ []),
+  length-map s.events time_of,
+)
 
-moment-call : (f : ℕ) (s : TrackStream) (i : ℕ) → i < length s.events + 2 → get_or (moments (call_of f s)) (i + 1) 0
+moment-call : (f : ℕ) (s : TrackStream) (i : ℕ) → i < length s.events + 2
+    → get_or (moments (call_of f s)) (i + 1) 0
     ≡ get_or (moments s) i 0
 moment-call f s i h = ap (λ us. get_or us (i + 1) 0) (moments-call f s)
     ∙ ap (λ n. get_or (s.start ∷ (moments s ++ s.end ∷ [])) n 0) (add-one i)
@@ -122,7 +137,8 @@ time-call has f a b s legal =
     (no-clip s.start s.start a b refl) in
     let last : g (suc n + 1) ≡ 0 = cond-zero (has (stack_after (take (suc n + 1) ((call_of f s).events))))
     (clip a b (piece (call_of f s) (suc n + 1)))
-    (no-clip (get_or (moments (call_of f s)) (suc n + 1) 0) (get_or (moments (call_of f s)) (suc n + 1 + 1) 0) a b
+    (no-clip (get_or (moments (call_of f s)) (suc n + 1) 0) (get_or (moments (call_of f s)) (suc n + 1 + 1) 0)
+    a b
     (moment-call f s (suc n) (omega arith) ∙ ap (λ m. get_or (moments s) m 0) (sym (add-one n)) ∙ moment-end s
     ∙ sym (ap (λ m. get_or (moments (call_of f s)) (m + 1) 0) two ∙ moment-past f s))) in
     time-parts has a b (call_of f s)
@@ -142,7 +158,8 @@ time-call has f a b s legal =
     two : suc (length s.events) + 1 ≡ length s.events + 2
     two = omega arith
 
-    each : (i : ℕ) → i ≤ length s.events → part has a b (call_of f s) (i + 1) ≡ part (λ q. has (f ∷ q)) a b s i
+    each : (i : ℕ) → i ≤ length s.events → part has a b (call_of f s) (i + 1) ≡ part (λ q. has (f ∷ q)) a b s
+        i
     each i h =
         ap (λ q. cond (has q) (clip a b (piece (call_of f s) (i + 1))) 0) (stack-call f s legal i h)
         ∙ ap (λ m. cond (has (f ∷ stack_after (take i s.events)))
@@ -150,10 +167,12 @@ time-call has f a b s legal =
         ∙ ap (λ m. cond (has (f ∷ stack_after (take i s.events)))
         (min m b - max (get_or (moments s) i 0) a) 0) (moment-call f s (i + 1) (omega arith))
 
-pub calls-call : (k f a b : ℕ) (s : TrackStream) → calls_in k a b (call_of f s) ≡ cond ((f == k) && is_within a b s.start)
+pub calls-call : (k f a b : ℕ) (s : TrackStream) → calls_in k a b (call_of f s) ≡ cond
+    ((f == k) && is_within a b s.start)
     1 0 + calls_in k a b s
 unfolding calls_in
-calls-call k f a b s = sum_by-cons (λ e. cond (enters_in k a b e) 1 0) (Enter f s.start) (s.events ++ Leave s.end ∷ [])
+calls-call k f a b s = sum_by-cons (λ e. cond (enters_in k a b e) 1 0) (Enter f s.start)
+    (s.events ++ Leave s.end ∷ [])
     ∙ ap (λ n. cond ((f == k) && is_within a b s.start) 1 0 + n)
     (sum_by-append (λ e. cond (enters_in k a b e) 1 0) s.events (Leave s.end ∷ [])
     ∙ add-zero (sum_by (λ e. cond (enters_in k a b e) 1 0) s.events))

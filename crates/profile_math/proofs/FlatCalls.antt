@@ -1,17 +1,21 @@
 -- The flat profile of a call is the closing of the profile of what it encloses.
-use Rattle.std.proofs.Common.{◌≡◌, ◌≢◌, ℕ, ◌+◌, ◌<◌, ◌≤◌, ◌==◌, zero, suc, Bool, true, false, cond, ◌&&◌, ◌||◌, List}
-use Rattle.std.proofs.Common.{[], ◌∷◌, ◌++◌, length, take, filter, sum_by, nat_lt, refl, ap, sym, subst, ◌∙◌, ◌⊎◌, inl, inr}
+use Rattle.std.proofs.Common.{◌≡◌, ◌≢◌, ℕ, ◌+◌, ◌<◌, ◌≤◌, ◌==◌, zero, suc, Bool, true, false, cond, ◌&&◌}
+use Rattle.std.proofs.Common.{◌||◌, List}
+use Rattle.std.proofs.Common.{[], ◌∷◌, ◌++◌, length, take, filter, sum_by, nat_lt, refl, ap, sym, subst, ◌∙◌}
+use Rattle.std.proofs.Common.{◌⊎◌, inl, inr}
 use Rattle.std.proofs.Common.{arith, zero-add, add-zero, append-nil, eq-eqb}
 use Rattle.std.specs.List.{AllByRecursion, list_any}
 use Rattle.std.specs.Ordering.{nat_cmp, is_eq}
 use Rattle.std.specs.declared.cmp.Ordering.TheVariants.{Less, Equal, Greater}
 use Rattle.std.specs.Cmp.{unsigned_ties, nat_cmp_is}
-use Rattle.std.proofs.lemmas.Bool.{cases_Bool, cases_eq, cases_lt, cond-true, cond-false, lt-ltb, le-ltb, ltb-true}
+use Rattle.std.proofs.lemmas.Bool.{cases_Bool, cases_eq, cases_lt, cond-true, cond-false, lt-ltb, le-ltb}
+use Rattle.std.proofs.lemmas.Bool.{ltb-true}
 use Rattle.std.proofs.lemmas.Bool.{ne_eqb, eqb-true, true≢false, cond_both}
 use Rattle.std.proofs.lemmas.List.Elements.{filter-append}
 use Rattle.std.proofs.lemmas.List.Sums.{sum_by-append}
 use Rattle.trace_base.proofs.Order.{all_mapped}
-use Rattle.trace_base.specs.Flat.{stands, is_bare, is_open_in, is_innermost_in, is_within, time_with, calls_in, row_of}
+use Rattle.trace_base.specs.Flat.{stands, is_bare, is_open_in, is_innermost_in, is_within, time_with}
+use Rattle.trace_base.specs.Flat.{calls_in, row_of}
 use Rattle.trace_base.specs.Flat.{greatest_function, flat}
 use Rattle.trace_base.specs.Stream.{stack_after, IsLegal}
 use Rattle.trace_base.specs.declared.profile.Profile.{Profile}
@@ -22,8 +26,10 @@ use Rattle.profile_math.specs.Laws.{call_of}
 use Rattle.profile_math.specs.Sum.{row_total, rows_for}
 use Rattle.profile_math.proofs.CallTimes.{time-call, calls-call}
 use Rattle.profile_math.proofs.FlatLaws.{flat-rows, flat-bare, row-func, row-within, row-past}
-use Rattle.profile_math.proofs.FlatRows.{standing, kept, standing-zero, standing-suc, standing-out, standing-climbs}
-use Rattle.profile_math.proofs.FlatRows.{at-any, at-append, IsWithin, stands-from, stands-into, stands-not, no-stands}
+use Rattle.profile_math.proofs.FlatRows.{standing, kept, standing-zero, standing-suc, standing-out}
+use Rattle.profile_math.proofs.FlatRows.{standing-climbs}
+use Rattle.profile_math.proofs.FlatRows.{at-any, at-append, IsWithin, stands-from, stands-into, stands-not}
+use Rattle.profile_math.proofs.FlatRows.{no-stands}
 use Rattle.profile_math.proofs.FlatRows.{empty-row, kept-yes, kept-no, no_row}
 use Rattle.profile_math.proofs.Keyed.{at, Climbs, one_list, climbs-filter, climbs-append, all_passed}
 use Rattle.profile_math.proofs.Keyed.{filter_filter_same, filter_filter_none}
@@ -60,13 +66,15 @@ own-other g true r n = cond-false (is_eq (nat_cmp r.func g)) (r ∷ []) [] (sym 
     ∙ ne_eqb r.func g n)
 own-other g false r n = refl
 
-own-same : (g : ℕ) (b : Bool) (r : Row) → r.func ≡ g → at nat_cmp func_of g (cond b (r ∷ []) []) ≡ cond b (r ∷ []) []
+own-same : (g : ℕ) (b : Bool) (r : Row) → r.func ≡ g → at nat_cmp func_of g (cond b (r ∷ []) []) ≡ cond b
+    (r ∷ []) []
 own-same g true r e = cond-true (is_eq (nat_cmp r.func g)) (r ∷ []) [] (sym (unsigned_ties r.func g)
     ∙ eq-eqb r.func g e)
 own-same g false r e = refl
 
 closed-split : (g : ℕ) (xs : List Row) (call : Row) → at nat_cmp func_of g (closed_rows xs call)
-    ≡ at nat_cmp func_of g (filter (λ r. nat_lt r.func call.func) xs) ++ (at nat_cmp func_of g (own_rows xs call)
+    ≡ at nat_cmp func_of g (filter (λ r. nat_lt r.func call.func) xs)
+    ++ (at nat_cmp func_of g (own_rows xs call)
     ++ at nat_cmp func_of g (filter (λ r. nat_lt call.func r.func) xs))
 unfolding closed_rows
 closed-split g xs call = at-append g (filter (λ r. nat_lt r.func call.func) xs)
@@ -74,7 +82,8 @@ closed-split g xs call = at-append g (filter (λ r. nat_lt r.func call.func) xs)
     ∙ ap (λ (us : List Row). at nat_cmp func_of g (filter (λ r. nat_lt r.func call.func) xs) ++ us)
     (at-append g (own_rows xs call) (filter (λ r. nat_lt call.func r.func) xs))
 
-closed-at-other : (g : ℕ) (xs : List Row) (call : Row) → g ≢ call.func → at nat_cmp func_of g (closed_rows xs call)
+closed-at-other : (g : ℕ) (xs : List Row) (call : Row) → g ≢ call.func
+    → at nat_cmp func_of g (closed_rows xs call)
     ≡ at nat_cmp func_of g xs
 closed-at-other g xs call n =
     let f : ℕ = call.func in
@@ -91,7 +100,8 @@ closed-at-other g xs call n =
           ∙ at-above g f xs (omega (arith, n))
     ]
 
-closed-at-own : (xs : List Row) (call : Row) → at nat_cmp func_of call.func (closed_rows xs call) ≡ own_rows xs call
+closed-at-own : (xs : List Row) (call : Row) → at nat_cmp func_of call.func (closed_rows xs call) ≡ own_rows
+    xs call
 closed-at-own xs call =
     let f : ℕ = call.func in
     closed-split f xs call
@@ -117,7 +127,8 @@ all_append : (P : Row → Type 0) (xs ys : List Row) → AllByRecursion P xs →
 all_append P [] ys h g = g
 all_append P (x ∷ xs) ys h g = (h.0, all_append P xs ys h.1 g)
 
-closed-climbs : (xs : List Row) (call : Row) → Climbs nat_cmp func_of xs → Climbs nat_cmp func_of (closed_rows xs call)
+closed-climbs : (xs : List Row) (call : Row) → Climbs nat_cmp func_of xs
+    → Climbs nat_cmp func_of (closed_rows xs call)
 unfolding closed_rows
 closed-climbs xs call h =
     let f : ℕ = call.func in
@@ -126,17 +137,20 @@ closed-climbs xs call h =
     let back : List Row = filter (λ r. nat_lt f r.func) xs in
     let own : List Row = own_rows xs call in
     let above : AllByRecursion (λ r. nat_lt f r.func ≡ true) back = all_passed (λ r. nat_lt f r.func) xs in
-    climbs-append nat_cmp func_of front (own ++ back) (climbs-filter nat_cmp func_of (λ r. nat_lt r.func f) xs h)
+    climbs-append nat_cmp func_of front (own ++ back)
+    (climbs-filter nat_cmp func_of (λ r. nat_lt r.func f) xs h)
     (climbs-append nat_cmp func_of own back (climbs_cond b (closed_row xs call))
     (climbs-filter nat_cmp func_of (λ r. nat_lt f r.func) xs h)
     (all_cond (λ (r : Row). AllByRecursion (λ s. nat_cmp r.func s.func ≡ Less) back) b (closed_row xs call)
-    (all_mapped (λ (s : Row). nat_lt f s.func ≡ true) (λ s. nat_cmp f s.func ≡ Less) (λ s e. less_is f s.func e)
+    (all_mapped (λ (s : Row). nat_lt f s.func ≡ true) (λ s. nat_cmp f s.func ≡ Less)
+    (λ s e. less_is f s.func e)
     back above)))
     (all_mapped (λ (r : Row). nat_lt r.func f ≡ true) (λ r. AllByRecursion (λ s. nat_cmp r.func s.func ≡ Less)
     (own ++ back)) (λ r e. all_append (λ s. nat_cmp r.func s.func ≡ Less) own back
     (all_cond (λ (s : Row). nat_cmp r.func s.func ≡ Less) b (closed_row xs call) (less_is r.func f e))
     (all_mapped (λ (s : Row). nat_lt f s.func ≡ true) (λ s. nat_cmp r.func s.func ≡ Less)
-    (λ s g. less_is r.func s.func (lt-ltb r.func s.func (omega (arith, ltb-true r.func f e, ltb-true f s.func g))))
+    (λ s g. less_is r.func s.func (lt-ltb r.func s.func
+    (omega (arith, ltb-true r.func f e, ltb-true f s.func g))))
     back above)) front (all_passed (λ r. nat_lt r.func f) xs))
 
 -- the sums over one stream
@@ -172,7 +186,8 @@ innermost-other k f n [] = ne_eqb f k (λ e. n (sym e))
 innermost-other k f n (x ∷ xs) = innermost-is k f (x ∷ xs) ∙ ap (λ l. l == k) (last-under f x xs)
     ∙ sym (innermost-is k x xs)
 
-innermost-own : (f : ℕ) (q : List ℕ) (c : ℕ) → cond (is_innermost_in f (f ∷ q)) c 0 ≡ cond (is_innermost_in f q) c 0
+innermost-own : (f : ℕ) (q : List ℕ) (c : ℕ) → cond (is_innermost_in f (f ∷ q)) c 0 ≡ cond
+    (is_innermost_in f q) c 0
     + cond (is_bare q) c 0
 innermost-own f [] c = ap {B = ℕ} (λ (t : Bool). cond t c 0) (eq-eqb f f refl) ∙ sym (zero-add c)
 innermost-own f (x ∷ xs) c = ap {B = ℕ} (λ (t : Bool). cond t c 0) (innermost-is f f (x ∷ xs)
@@ -187,7 +202,8 @@ open-own : (f : ℕ) (q : List ℕ) → is_open_in f (f ∷ q) ≡ true
 open-own f q = ap (λ t. t || is_open_in f q) (eq-eqb f f refl)
 
 -- the row of another function stays
-row-other : (s : TrackStream) (f a b k : ℕ) → IsLegal s → k ≢ f → row_of (call_of f s ∷ []) a b k ≡ row_of (s ∷ []) a b k
+row-other : (s : TrackStream) (f a b k : ℕ) → IsLegal s → k ≢ f → row_of (call_of f s ∷ []) a b k ≡ row_of
+    (s ∷ []) a b k
 row-other s f a b k legal n =
     row_made (row_of (call_of f s ∷ []) a b k) k (calls_in k a b s) (time_with (is_open_in k) a b s)
     (time_with (is_innermost_in k) a b s) (row-func (call_of f s ∷ []) a b k)
@@ -213,18 +229,23 @@ kept-excl r w =
           ∙ omega (arith, (stands-not r e).1, w)
     ]
 
-own-excl : (s : TrackStream) (a b n : ℕ) → sum_by (λ r. r.excl) (standing (row_of (s ∷ []) a b) n) ≡ own_time a b s n
+own-excl : (s : TrackStream) (a b n : ℕ) → sum_by (λ r. r.excl) (standing (row_of (s ∷ []) a b) n) ≡ own_time
+    a b s n
 own-excl s a b zero = ap (λ (us : List Row). sum_by (λ r. r.excl) us) (standing-zero (row_of (s ∷ []) a b))
     ∙ sym (own_time-zero a b s)
-own-excl s a b (suc n) = ap (λ (us : List Row). sum_by (λ r. r.excl) us) (standing-suc (row_of (s ∷ []) a b) n)
-    ∙ sum_by-append (λ (r : Row). r.excl) (standing (row_of (s ∷ []) a b) n) (kept (row_of (s ∷ []) a b (n + 1)))
+own-excl s a b (suc n) = ap (λ (us : List Row). sum_by (λ r. r.excl) us)
+    (standing-suc (row_of (s ∷ []) a b) n)
+    ∙ sum_by-append (λ (r : Row). r.excl) (standing (row_of (s ∷ []) a b) n)
+    (kept (row_of (s ∷ []) a b (n + 1)))
     ∙ ap (λ m. m + sum_by (λ r. r.excl) (kept (row_of (s ∷ []) a b (n + 1)))) (own-excl s a b n)
-    ∙ ap (λ m. own_time a b s n + m) (kept-excl (row_of (s ∷ []) a b (n + 1)) (row-within (s ∷ []) a b (n + 1))
+    ∙ ap (λ m. own_time a b s n + m) (kept-excl (row_of (s ∷ []) a b (n + 1))
+    (row-within (s ∷ []) a b (n + 1))
     ∙ row-excl s a b (n + 1))
     ∙ sym (own_time-suc a b s n)
 
 -- all time of the content, by its profile
-pub profile-time : (s : TrackStream) (a b : ℕ) → IsLegal s → time_with (λ q. true) a b s ≡ (flat (s ∷ []) a b).bare
+pub profile-time : (s : TrackStream) (a b : ℕ) → IsLegal s
+    → time_with (λ q. true) a b s ≡ (flat (s ∷ []) a b).bare
     + sum_by (λ r. r.excl) ((flat (s ∷ []) a b).rows)
 profile-time s a b legal =
     all-time a b s (greatest_function (s ∷ [])) legal (greatest-all (s ∷ [])).0
@@ -235,22 +256,24 @@ profile-time s a b legal =
 
 -- the row of the call's function
 row-own : (s : TrackStream) (f a b : ℕ) → IsLegal s → row_of (call_of f s ∷ []) a b f ≡ record {
-      func = f;
-      calls = (row_of (s ∷ []) a b f).calls + cond (is_within a b s.start) 1 0;
-      incl = (flat (s ∷ []) a b).bare + sum_by (λ r. r.excl) ((flat (s ∷ []) a b).rows);
-      excl = (row_of (s ∷ []) a b f).excl + (flat (s ∷ []) a b).bare;
-    }
+  func = f;
+  calls = (row_of (s ∷ []) a b f).calls + cond (is_within a b s.start) 1 0;
+  incl = (flat (s ∷ []) a b).bare + sum_by (λ r. r.excl) ((flat (s ∷ []) a b).rows);
+  excl = (row_of (s ∷ []) a b f).excl + (flat (s ∷ []) a b).bare;
+}
 row-own s f a b legal =
     let flat-bare-one : (flat (s ∷ []) a b).bare ≡ time_with is_bare a b s = flat-bare (s ∷ []) a b
     ∙ one_sum (time_with is_bare a b) s in
-    row_made (row_of (call_of f s ∷ []) a b f) f ((row_of (s ∷ []) a b f).calls + cond (is_within a b s.start) 1 0)
+    row_made (row_of (call_of f s ∷ []) a b f) f ((row_of (s ∷ []) a b f).calls
+    + cond (is_within a b s.start) 1 0)
     ((flat (s ∷ []) a b).bare + sum_by (λ r. r.excl) ((flat (s ∷ []) a b).rows))
     ((row_of (s ∷ []) a b f).excl + (flat (s ∷ []) a b).bare) (row-func (call_of f s ∷ []) a b f)
     (row-calls (call_of f s) a b f ∙ calls-call f f a b s
     ∙ ap {B = ℕ} (λ (t : Bool). cond (t && is_within a b s.start) 1 0 + calls_in f a b s) (eq-eqb f f refl)
     ∙ omega (arith, row-calls s a b f))
     (row-incl (call_of f s) a b f ∙ time-call (is_open_in f) f a b s legal
-    ∙ time-same (λ q. is_open_in f (f ∷ q)) (λ q. true) a b s (λ i. open-own f (stack_after (take i s.events)))
+    ∙ time-same (λ q. is_open_in f (f ∷ q)) (λ q. true) a b s
+    (λ i. open-own f (stack_after (take i s.events)))
     ∙ profile-time s a b legal)
     (row-excl (call_of f s) a b f ∙ time-call (is_innermost_in f) f a b s legal
     ∙ time-split (λ q. is_innermost_in f (f ∷ q)) (is_innermost_in f) is_bare a b s
@@ -274,7 +297,8 @@ unfolding has_items
 any-filter p [] = refl
 any-filter p (x ∷ xs) =
     elim (cases_Bool (p x)) [
-      | inl e ↦ ap (λ t. t || list_any p xs) e ∙ ap has_items (sym (cond-true (p x) (x ∷ filter p xs) (filter p xs) e))
+      | inl e ↦ ap (λ t. t || list_any p xs) e ∙ ap has_items
+          (sym (cond-true (p x) (x ∷ filter p xs) (filter p xs) e))
       | inr e ↦ ap (λ t. t || list_any p xs) e ∙ any-filter p xs
           ∙ ap has_items (sym (cond-false (p x) (x ∷ filter p xs) (filter p xs) e))
     ]
@@ -310,14 +334,16 @@ flat-at ss a b g h = ap (at nat_cmp func_of g) (flat-rows ss a b) ∙ at-any (ro
     (greatest_function ss) g h (row-past ss a b g)
 
 flat-at-zero : (ss : List TrackStream) (a b : ℕ) → at nat_cmp func_of 0 ((flat ss a b).rows) ≡ []
-flat-at-zero ss a b = ap (at nat_cmp func_of 0) (flat-rows ss a b) ∙ standing-out (row_of ss a b) (row-func ss a b)
+flat-at-zero ss a b = ap (at nat_cmp func_of 0) (flat-rows ss a b) ∙ standing-out (row_of ss a b)
+    (row-func ss a b)
     (greatest_function ss) 0 (inl refl)
 
 flat-climbs : (ss : List TrackStream) (a b : ℕ) → Climbs nat_cmp func_of ((flat ss a b).rows)
 flat-climbs ss a b = subst (Climbs nat_cmp func_of) (sym (flat-rows ss a b))
     (standing-climbs (row_of ss a b) (row-func ss a b) (greatest_function ss))
 
-own-rows : (s : TrackStream) (f a b : ℕ) → IsLegal s → 0 < f → kept (row_of (call_of f s ∷ []) a b f) ≡ own_rows
+own-rows : (s : TrackStream) (f a b : ℕ) → IsLegal s → 0 < f → kept (row_of (call_of f s ∷ []) a b f) ≡
+    own_rows
     ((flat (s ∷ []) a b).rows) (call_row f (is_within a b s.start) (flat (s ∷ []) a b))
 own-rows s f a b legal h =
     let p : Profile = flat (s ∷ []) a b in
@@ -328,10 +354,17 @@ own-rows s f a b legal h =
     let of_f : rows_for f p.rows ≡ kept r = rows_for-at f p.rows ∙ flat-at (s ∷ []) a b f h in
     let total : row_total f (rows_for f p.rows) ≡ r = ap (row_total f) of_f
     ∙ total-kept r f (row-func (s ∷ []) a b f) (row-within (s ∷ []) a b f) in
-    let row : closed_row p.rows call ≡ new = ap (λ (x : Row). record call { calls = x.calls + call.calls;
-    excl = x.excl + call.excl }) total ∙ sym is in
-    let most : r.incl ≤ new.incl = omega (arith, ap (λ (x : Row). x.incl) is, row-incl s a b f,
-    profile-time s a b legal, time-le (is_open_in f) (λ q. true) (λ q e. refl) a b s) in
+    let row : closed_row p.rows call ≡ new = ap (λ (x : Row). record call {
+      calls = x.calls + call.calls;
+      excl = x.excl + call.excl;
+    }) total ∙ sym is in
+    let most : r.incl ≤ new.incl = omega (
+      arith,
+      ap (λ (x : Row). x.incl) is,
+      row-incl s a b f,
+      profile-time s a b legal,
+      time-le (is_open_in f) (λ q. true) (λ q e. refl) a b s,
+    ) in
     let test : (list_any (λ x. x.func == f) p.rows || stands call) ≡ stands new =
     ap (λ t. t || stands call) (any-filter (λ x. x.func == f) p.rows ∙ ap has_items of_f ∙ kept-items r)
     ∙ stands-own r call new (ap (λ (x : Row). x.calls) is) (ap (λ (x : Row). x.incl) is) most in
@@ -353,7 +386,8 @@ call-at s f a b legal h g =
             | inl z ↦ ap (λ k. at nat_cmp func_of k ((flat (call_of f s ∷ []) a b).rows)) z
                 ∙ flat-at-zero (call_of f s ∷ []) a b ∙ sym (closed-at-other g p.rows call n
                 ∙ ap (λ k. at nat_cmp func_of k p.rows) z ∙ flat-at-zero (s ∷ []) a b)
-            | inr z ↦ flat-at (call_of f s ∷ []) a b g (omega (arith, z)) ∙ ap kept (row-other s f a b g legal n)
+            | inr z ↦ flat-at (call_of f s ∷ []) a b g (omega (arith, z)) ∙ ap kept
+                (row-other s f a b g legal n)
                 ∙ sym (closed-at-other g p.rows call n ∙ flat-at (s ∷ []) a b g (omega (arith, z)))
           ]
     ]

@@ -1,6 +1,9 @@
--- The rows of flat profiles: what there is for each function, and when the rows of one are the sums of two others'.
-use Rattle.std.proofs.Common.{◌≡◌, ◌≢◌, ℕ, ◌+◌, ◌<◌, ◌≤◌, ◌==◌, zero, suc, Bool, true, false, cond, ◌||◌, List, [], ◌∷◌}
-use Rattle.std.proofs.Common.{◌++◌, map, filter, nat_lt, refl, ap, sym, subst, ◌∙◌, ◌⊎◌, inl, inr, arith, zero-add}
+-- The rows of flat profiles: what there is for each function, and when the rows of one are the sums of two
+-- others'.
+use Rattle.std.proofs.Common.{◌≡◌, ◌≢◌, ℕ, ◌+◌, ◌<◌, ◌≤◌, ◌==◌, zero, suc, Bool, true, false, cond, ◌||◌}
+use Rattle.std.proofs.Common.{List, [], ◌∷◌}
+use Rattle.std.proofs.Common.{◌++◌, map, filter, nat_lt, refl, ap, sym, subst, ◌∙◌, ◌⊎◌, inl, inr, arith}
+use Rattle.std.proofs.Common.{zero-add}
 use Rattle.std.proofs.Common.{add-zero, add-one, append-nil}
 use Rattle.std.specs.Cmp.{nat_cmp_is}
 use Rattle.std.specs.List.{AllByRecursion, range_with_len}
@@ -8,7 +11,8 @@ use Rattle.std.specs.Ordering.{nat_cmp, is_eq}
 use Rattle.std.specs.declared.cmp.Ordering.{Ordering}
 use Rattle.std.specs.declared.cmp.Ordering.TheVariants.{Less, Equal, Greater}
 use Rattle.std.specs.Cmp.{unsigned_ties}
-use Rattle.std.proofs.lemmas.Bool.{cases_Bool, cases_eq, cases_lt, cond-true, cond-false, lt-ltb, le-ltb, ltb-true}
+use Rattle.std.proofs.lemmas.Bool.{cases_Bool, cases_eq, cases_lt, cond-true, cond-false, lt-ltb, le-ltb}
+use Rattle.std.proofs.lemmas.Bool.{ltb-true}
 use Rattle.std.proofs.lemmas.Bool.{ltb-false, ne_eqb, eq-eqb, true≢false, cond_both}
 use Rattle.std.proofs.lemmas.List.Elements.{filter-append}
 use Rattle.std.proofs.lemmas.List.FromFn.{filter_of_map_range_with_len_more}
@@ -37,7 +41,8 @@ standing-zero row = refl
 
 pub standing-suc : (row : ℕ → Row) (n : ℕ) → standing row (suc n) ≡ standing row n ++ kept (row (n + 1))
 unfolding standing
-standing-suc row n = subst (λ m. filter stands (map row (range_with_len 1 m)) ≡ standing row n ++ kept (row (n + 1)))
+standing-suc row n = subst (λ m. filter stands (map row (range_with_len 1 m)) ≡ standing row n
+    ++ kept (row (n + 1)))
     (add-one n) (filter_of_map_range_with_len_more stands row 1 n (n + 1) (omega arith))
 
 other-at : (f : ℕ) (r : Row) → r.func ≢ f → at nat_cmp func_of f (kept r) ≡ []
@@ -109,22 +114,26 @@ climbing : (row : ℕ → Row) → ((k : ℕ) → (row k).func ≡ k) → (n : �
 climbing row own zero = rw standing-zero (tt, tt)
 climbing row own (suc n) =
     let before = climbing row own n in
-    let last : (row (n + 1)).func ≡ n + 1 = own (n + 1) in
-    (subst (Climbs nat_cmp func_of) (sym (standing-suc row n))
-    (climbs-append nat_cmp func_of (standing row n) (kept (row (n + 1))) before.0 (climbs_kept (row (n + 1)))
-    (all_mapped (λ (r : Row). r.func ≤ n) (λ r. AllByRecursion (λ s. nat_cmp r.func s.func ≡ Less) (kept (row (n + 1))))
-    (λ r l. all_kept (λ s. nat_cmp r.func s.func ≡ Less) (row (n + 1))
-    (less_is r.func (row (n + 1)).func (omega arith))) (standing row n) before.1)),
-    subst (AllByRecursion (λ (r : Row). r.func ≤ suc n)) (sym (standing-suc row n))
-    (all_append (λ r. r.func ≤ suc n) (standing row n) (kept (row (n + 1)))
-    (all_mapped (λ (r : Row). r.func ≤ n) (λ r. r.func ≤ suc n) (λ r l. omega arith) (standing row n) before.1)
-    (all_kept (λ r. r.func ≤ suc n) (row (n + 1)) (omega arith))))
+    let last : (row (n + 1)).func ≡ n + 1 = own (n + 1) in (
+      subst (Climbs nat_cmp func_of) (sym (standing-suc row n))
+          (climbs-append nat_cmp func_of (standing row n) (kept (row (n + 1))) before.0 (climbs_kept (row (n + 1)))
+          (all_mapped (λ (r : Row). r.func ≤ n) (λ r. AllByRecursion (λ s. nat_cmp r.func s.func ≡ Less)
+          (kept (row (n + 1))))
+          (λ r l. all_kept (λ s. nat_cmp r.func s.func ≡ Less) (row (n + 1))
+          (less_is r.func (row (n + 1)).func (omega arith))) (standing row n) before.1)),
+      subst (AllByRecursion (λ (r : Row). r.func ≤ suc n)) (sym (standing-suc row n))
+          (all_append (λ r. r.func ≤ suc n) (standing row n) (kept (row (n + 1)))
+          (all_mapped (λ (r : Row). r.func ≤ n) (λ r. r.func ≤ suc n) (λ r l. omega arith) (standing row n)
+          before.1)
+          (all_kept (λ r. r.func ≤ suc n) (row (n + 1)) (omega arith))),
+    )
 
 pub standing-climbs : (row : ℕ → Row) → ((k : ℕ) → (row k).func ≡ k) → (n : ℕ)
     → Climbs nat_cmp func_of (standing row n)
 standing-climbs row own n = (climbing row own n).0
 
-pub standing-rises : (row : ℕ → Row) → ((k : ℕ) → (row k).func ≡ k) → (n : ℕ) → RisesByFunction (standing row n)
+pub standing-rises : (row : ℕ → Row) → ((k : ℕ) → (row k).func ≡ k) → (n : ℕ)
+    → RisesByFunction (standing row n)
 standing-rises row own n = sorted-from nat_cmp func_of (standing row n) (standing-climbs row own n)
 
 -- a row without calls and time
@@ -192,8 +201,12 @@ pub kept-no : (r : Row) → stands r ≡ false → kept r ≡ []
 kept-no r e = cond-false (stands r) (r ∷ []) [] e
 
 plus-zero : (y : Row) (f : ℕ) → y.func ≡ f → row_plus (no_row f) y ≡ y
-plus-zero y f e = ap (λ k. let z : Row = record { func = k; calls = 0 + y.calls; incl = 0 + y.incl;
-    excl = 0 + y.excl } in z) (sym e) ∙ rw (zero-add y.calls, zero-add y.incl, zero-add y.excl) refl
+plus-zero y f e = ap (λ k. let z : Row = record {
+  func = k;
+  calls = 0 + y.calls;
+  incl = 0 + y.incl;
+  excl = 0 + y.excl;
+} in z) (sym e) ∙ rw (zero-add y.calls, zero-add y.incl, zero-add y.excl) refl
 
 -- the sum of two rows stands where either does, and adds what stands
 kept-plus : (x y : Row) (f : ℕ) → x.func ≡ f → y.func ≡ f → IsWithin x → IsWithin y
@@ -201,10 +214,12 @@ kept-plus : (x y : Row) (f : ℕ) → x.func ≡ f → y.func ≡ f → IsWithin
 kept-plus x y f ex ey wx wy =
     elim (cases_Bool (stands x)) [
       | inl sx ↦
-          (let sum : kept (row_plus x y) ≡ row_plus x y ∷ [] = kept-yes (row_plus x y) (stands-from (row_plus x y)
+          (let sum : kept (row_plus x y) ≡ row_plus x y
+          ∷ [] = kept-yes (row_plus x y) (stands-from (row_plus x y)
           (elim (stands-into x sx) [ inl l ↦ inl (omega arith) | inr l ↦ inr (omega arith) ])) in
           elim (cases_Bool (stands y)) [
-            | inl sy ↦ sum ∙ ap (λ r. r ∷ []) (sym (row_totals.two x y) ∙ ap (λ k. row_total k (x ∷ y ∷ [])) ex)
+            | inl sy ↦ sum ∙ ap (λ r. r ∷ []) (sym (row_totals.two x y) ∙ ap (λ k. row_total k (x ∷ y ∷ []))
+                ex)
                 ∙ sym (ap (λ (us : List Row). whole row_total f (us ++ kept y)) (kept-yes x sx)
                 ∙ ap (λ (us : List Row). whole row_total f (x ∷ us)) (kept-yes y sy))
             | inr sy ↦ sum ∙ ap (λ r. r ∷ []) (ap (row_plus x) (empty-row y f ey wy sy)
@@ -235,7 +250,8 @@ kept-plus x y f ex ey wx wy =
     or_both a b e g = ap (λ c. c || b) e ∙ g
 
 -- the row of the function, where it stands, whether or not it is one of the first n
-pub at-any : (row : ℕ → Row) → ((k : ℕ) → (row k).func ≡ k) → (n f : ℕ) → 0 < f → (n < f → stands (row f) ≡ false)
+pub at-any : (row : ℕ → Row) → ((k : ℕ) → (row k).func ≡ k) → (n f : ℕ) → 0 < f
+    → (n < f → stands (row f) ≡ false)
     → at nat_cmp func_of f (standing row n) ≡ kept (row f)
 at-any row own n f h past =
     elim (cases_lt n f) [
@@ -244,9 +260,11 @@ at-any row own n f h past =
     ]
 
 -- Where each row is the sum of two others', so is the profile.
-pub standing-sum : (row r1 r2 : ℕ → Row) (n n1 n2 : ℕ) → ((k : ℕ) → (r1 k).func ≡ k) → ((k : ℕ) → (r2 k).func ≡ k)
+pub standing-sum : (row r1 r2 : ℕ → Row) (n n1 n2 : ℕ) → ((k : ℕ) → (r1 k).func ≡ k)
+    → ((k : ℕ) → (r2 k).func ≡ k)
     → ((k : ℕ) → row k ≡ row_plus (r1 k) (r2 k)) → ((k : ℕ) → IsWithin (r1 k)) → ((k : ℕ) → IsWithin (r2 k))
-    → ((k : ℕ) → n1 < k → stands (r1 k) ≡ false) → ((k : ℕ) → n2 < k → stands (r2 k) ≡ false) → n1 ≤ n → n2 ≤ n
+    → ((k : ℕ) → n1 < k → stands (r1 k) ≡ false) → ((k : ℕ) → n2 < k → stands (r2 k) ≡ false) → n1 ≤ n
+    → n2 ≤ n
     → standing row n ≡ by_function (standing r1 n1 ++ standing r2 n2)
 standing-sum row r1 r2 n n1 n2 own1 own2 adds w1 w2 past1 past2 l1 l2 =
     sums-is nat_cmp func_of row_total row_plus row_totals (standing row n) (standing r1 n1 ++ standing r2 n2)
@@ -265,7 +283,8 @@ standing-sum row r1 r2 n n1 n2 own1 own2 adds w1 w2 past1 past2 l1 l2 =
         (at nat_cmp func_of f (standing r1 n1 ++ standing r2 n2))
     at-each zero = standing-out row own n 0 (inl refl)
         ∙ sym (ap (whole row_total 0) (at-append 0 (standing r1 n1) (standing r2 n2)
-        ∙ ap (λ (us : List Row). us ++ at nat_cmp func_of 0 (standing r2 n2)) (standing-out r1 own1 n1 0 (inl refl))
+        ∙ ap (λ (us : List Row). us ++ at nat_cmp func_of 0 (standing r2 n2))
+        (standing-out r1 own1 n1 0 (inl refl))
         ∙ standing-out r2 own2 n2 0 (inl refl)))
     at-each (suc g) = at-any row own n (suc g) (omega arith) (past (suc g))
         ∙ ap kept (adds (suc g))

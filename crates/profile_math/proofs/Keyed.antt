@@ -1,6 +1,7 @@
--- Items in the order of their keys: at each key those that have it, and what they are together. A list in order is
--- fixed by what it has at each key; two lists merged have at each key what both have there.
-use Rattle.std.proofs.Common.{◌≡◌, ℕ, Bool, true, false, cond, not, ◌&&◌, List, [], ◌∷◌, ◌++◌, map, filter, refl, ap}
+-- Items in the order of their keys: at each key those that have it, and what they are together. A list in
+-- order is fixed by what it has at each key; two lists merged have at each key what both have there.
+use Rattle.std.proofs.Common.{◌≡◌, ℕ, Bool, true, false, cond, not, ◌&&◌, List, [], ◌∷◌, ◌++◌, map, filter}
+use Rattle.std.proofs.Common.{refl, ap}
 use Rattle.std.proofs.Common.{sym, subst, ◌∙◌, ◌⊎◌, inl, inr, append-nil, append_assoc}
 use Rattle.std.specs.Cmp.{IsTotalOrder, IsStrictWeakOrder}
 use Rattle.std.specs.List.{AllByRecursion}
@@ -8,7 +9,8 @@ use Rattle.std.specs.List.Sorted.{IsStrictlySortedBy, ties}
 use Rattle.std.specs.Ordering.{is_lt, is_eq, ordering_reverse}
 use Rattle.std.specs.declared.cmp.Ordering.{Ordering}
 use Rattle.std.specs.declared.cmp.Ordering.TheVariants.{Less, Equal, Greater}
-use Rattle.std.proofs.lemmas.Bool.{cases_Bool, cond-true, cond-false, cond_both, false_from_ne_true, true≢false}
+use Rattle.std.proofs.lemmas.Bool.{cases_Bool, cond-true, cond-false, cond_both, false_from_ne_true}
+use Rattle.std.proofs.lemmas.Bool.{true≢false}
 use Rattle.std.proofs.lemmas.Cmp.{tied_itself, tied_back, alike_right}
 use Rattle.std.proofs.lemmas.List.Elements.{filter_agree, filter-append}
 use Rattle.std.proofs.lemmas.List.Sorted.{ranks_by}
@@ -53,7 +55,10 @@ pub climbs-from : {K X : Type 0} (cmp : K → K → Ordering) (key : X → K) (x
     → IsStrictlySortedBy cmp (map key xs) → Climbs cmp key xs
 unfolding IsStrictlySortedBy
 climbs-from cmp key [] h = tt
-climbs-from cmp key (x ∷ xs) h = (all_unmapped (λ k. cmp (key x) k ≡ Less) key xs h.0, climbs-from cmp key xs h.1)
+climbs-from cmp key (x ∷ xs) h = (
+  all_unmapped (λ k. cmp (key x) k ≡ Less) key xs h.0,
+  climbs-from cmp key xs h.1,
+)
 
 pub sorted-from : {K X : Type 0} (cmp : K → K → Ordering) (key : X → K) (xs : List X) → Climbs cmp key xs
     → IsStrictlySortedBy cmp (map key xs)
@@ -75,10 +80,14 @@ equal-from Equal e = refl
 equal-from Greater e = cc
 
 -- what stands before the first of items in order stands before all of them
-pub all_above : {K X : Type 0} (cmp : K → K → Ordering) → IsTotalOrder cmp → (key : X → K) (k : K) (x : X) (xs : List X)
+pub all_above : {K X : Type 0} (cmp : K → K → Ordering) → IsTotalOrder cmp
+    → (key : X → K) (k : K) (x : X) (xs : List X)
     → cmp k (key x) ≡ Less → Climbs cmp key (x ∷ xs) → AllByRecursion (λ y. cmp k (key y) ≡ Less) (x ∷ xs)
-all_above cmp o key k x xs e h = (e, all_mapped (λ y. cmp (key x) (key y) ≡ Less) (λ y. cmp k (key y) ≡ Less)
-    (λ y l. o.trans k (key x) (key y) e l) xs h.0)
+all_above cmp o key k x xs e h = (
+  e,
+  all_mapped (λ y. cmp (key x) (key y) ≡ Less) (λ y. cmp k (key y) ≡ Less)
+      (λ y l. o.trans k (key x) (key y) e l) xs h.0,
+)
 
 -- none of the items above the key has it
 pub none-at : {K X : Type 0} (cmp : K → K → Ordering) → IsTotalOrder cmp → (key : X → K) (k : K) (xs : List X)
@@ -112,10 +121,12 @@ not_above o p e h = ap is_lt (e ∙ ap ordering_reverse h)
 climbs-rises : {K X : Type 0} (cmp : K → K → Ordering) → IsTotalOrder cmp → (key : X → K) (xs : List X)
     → Climbs cmp key xs → Rises (λ x y. is_lt (cmp (key x) (key y))) xs
 climbs-rises cmp o key [] h = tt
-climbs-rises cmp o key (x ∷ xs) h = (all_mapped (λ y. cmp (key x) (key y) ≡ Less)
-    (λ y. is_lt (cmp (key y) (key x)) ≡ false)
-    (λ y l. not_above (cmp (key y) (key x)) (cmp (key x) (key y)) (o.antisymm (key y) (key x)) l) xs h.0,
-    climbs-rises cmp o key xs h.1)
+climbs-rises cmp o key (x ∷ xs) h = (
+  all_mapped (λ y. cmp (key x) (key y) ≡ Less)
+      (λ y. is_lt (cmp (key y) (key x)) ≡ false)
+      (λ y l. not_above (cmp (key y) (key x)) (cmp (key x) (key y)) (o.antisymm (key y) (key x)) l) xs h.0,
+  climbs-rises cmp o key xs h.1,
+)
 
 -- two lists in order that have the same items at each key are one list
 pub one_list : {K X : Type 0} (cmp : K → K → Ordering) → IsTotalOrder cmp → (key : X → K) (xs ys : List X)
@@ -154,8 +165,10 @@ pub climbs-append : {K X : Type 0} (cmp : K → K → Ordering) (key : X → K) 
     → Climbs cmp key ys → AllByRecursion (λ x. AllByRecursion (λ y. cmp (key x) (key y) ≡ Less) ys) xs
     → Climbs cmp key (xs ++ ys)
 climbs-append cmp key [] ys h g l = g
-climbs-append cmp key (x ∷ xs) ys h g l = (all_append (λ y. cmp (key x) (key y) ≡ Less) xs ys h.0 l.0,
-    climbs-append cmp key xs ys h.1 g l.1)
+climbs-append cmp key (x ∷ xs) ys h g l = (
+  all_append (λ y. cmp (key x) (key y) ≡ Less) xs ys h.0 l.0,
+  climbs-append cmp key xs ys h.1 g l.1,
+)
 
 -- keys put in order are in order
 put-climbs : {K : Type 0} (cmp : K → K → Ordering) → IsTotalOrder cmp → (k : K) (ks : List K)
@@ -169,8 +182,11 @@ put-climbs {K} cmp o k ks h =
     (above, climbs-filter cmp (λ j. j) (λ j. is_lt (cmp k j)) ks h)
     (all_mapped (λ j. is_lt (cmp j k) ≡ true)
     (λ j. AllByRecursion (λ l. cmp j l ≡ Less) (k ∷ filter (λ l. is_lt (cmp k l)) ks))
-    (λ j e. (less-from (cmp j k) e, all_mapped (λ l. cmp k l ≡ Less) (λ l. cmp j l ≡ Less)
-    (λ l m. o.trans j k l (less-from (cmp j k) e) m) (filter (λ l. is_lt (cmp k l)) ks) above))
+    (λ j e. (
+      less-from (cmp j k) e,
+      all_mapped (λ l. cmp k l ≡ Less) (λ l. cmp j l ≡ Less)
+          (λ l m. o.trans j k l (less-from (cmp j k) e) m) (filter (λ l. is_lt (cmp k l)) ks) above,
+    ))
     (filter (λ j. is_lt (cmp j k)) ks) (all_passed (λ j. is_lt (cmp j k)) ks))
 
 pub in_order-climbs : {K : Type 0} (cmp : K → K → Ordering) → IsTotalOrder cmp → (ks : List K)
@@ -214,7 +230,8 @@ filter-map {X} {Y} p f (x ∷ xs) =
           ∙ ap (map f) (sym (cond-true (p (f x)) (x ∷ filter (λ z. p (f z)) xs) (filter (λ z. p (f z)) xs) e))
       | inr e ↦ cond-false (p (f x)) (f x ∷ filter p (map f xs)) (filter p (map f xs)) e
           ∙ filter-map p f xs
-          ∙ ap (map f) (sym (cond-false (p (f x)) (x ∷ filter (λ z. p (f z)) xs) (filter (λ z. p (f z)) xs) e))
+          ∙ ap (map f) (sym (cond-false (p (f x)) (x ∷ filter (λ z. p (f z)) xs) (filter (λ z. p (f z)) xs)
+          e))
     ]
 
 -- the key, where any item has it
@@ -233,7 +250,8 @@ in_order-at {K} cmp o one k (l ∷ ls) =
     let eq : K → Bool = λ j. is_eq (cmp j k) in
     let below : K → Bool = λ j. is_lt (cmp j l) in
     let above : K → Bool = λ j. is_lt (cmp l j) in
-    let front : filter eq (in_order cmp (l ∷ ls)) ≡ filter eq (filter below ks) ++ filter eq (l ∷ filter above ks) =
+    let front : filter eq (in_order cmp (l ∷ ls)) ≡ filter eq (filter below ks)
+    ++ filter eq (l ∷ filter above ks) =
     filter-append eq (filter below ks) (l ∷ filter above ks) in
     elim (ordering_cases (cmp l k)) [
       | inl e ↦ front
@@ -249,7 +267,8 @@ in_order-at {K} cmp o one k (l ∷ ls) =
             | inl e ↦ front
                 ∙ ap (λ (us : List K). us ++ filter eq (l ∷ filter above ks)) (filter_filter_none eq below
                 (λ j h. ap is_lt (o.congr j k l (equal-from (cmp j k) h) ∙ tied_back o l k e)) ks)
-                ∙ cond-true (eq l) (l ∷ filter eq (filter above ks)) (filter eq (filter above ks)) (ap is_eq e)
+                ∙ cond-true (eq l) (l ∷ filter eq (filter above ks)) (filter eq (filter above ks))
+                (ap is_eq e)
                 ∙ ap (λ (us : List K). l ∷ us) (filter_filter_none eq above
                 (λ j h. ap is_lt (alike_right o j k l (equal-from (cmp j k) h) ∙ e)) ks)
                 ∙ ap (λ (u : K). u ∷ []) (one l k e)
@@ -258,7 +277,8 @@ in_order-at {K} cmp o one k (l ∷ ls) =
                 ∙ ap (λ (us : List K). us ++ filter eq (l ∷ filter above ks)) (filter_filter_same eq below
                 (λ j h. ap is_lt (o.congr j k l (equal-from (cmp j k) h) ∙ turned_back cmp o l k e)) ks)
                 ∙ ap (λ (us : List K). filter eq ks ++ us)
-                (cond-false (eq l) (l ∷ filter eq (filter above ks)) (filter eq (filter above ks)) (ap is_eq e)
+                (cond-false (eq l) (l ∷ filter eq (filter above ks)) (filter eq (filter above ks))
+                (ap is_eq e)
                 ∙ filter_filter_none eq above
                 (λ j h. ap is_lt (alike_right o j k l (equal-from (cmp j k) h) ∙ e)) ks)
                 ∙ append-nil (filter eq ks)
@@ -268,7 +288,8 @@ in_order-at {K} cmp o one k (l ∷ ls) =
     ]
 
 -- What the items of a key are together, and how two of them are added.
-pub record Totals {K X : Type 0} (cmp : K → K → Ordering) (key : X → K) (tot : K → List X → X) (plus : X → X → X)
+pub record Totals {K X : Type 0} (cmp : K → K → Ordering) (key : X → K) (tot : K → List X → X)
+    (plus : X → X → X)
     : Type 0 where
   pub order : IsTotalOrder cmp
   pub same : (j k : K) → cmp j k ≡ Equal → j ≡ k
@@ -279,10 +300,12 @@ pub record Totals {K X : Type 0} (cmp : K → K → Ordering) (key : X → K) (t
 
 one_at : {K X : Type 0} (cmp : K → K → Ordering) (key : X → K) (tot : K → List X → X) (plus : X → X → X)
     → Totals cmp key tot plus → (k : K) (x : X) → is_eq (cmp (key x) k) ≡ true → tot k (x ∷ []) ≡ x
-one_at cmp key tot plus t k x e = ap (λ j. tot j (x ∷ [])) (sym (t.same (key x) k (equal-from (cmp (key x) k) e)))
+one_at cmp key tot plus t k x e = ap (λ j. tot j (x ∷ []))
+    (sym (t.same (key x) k (equal-from (cmp (key x) k) e)))
     ∙ t.one x
 
-map_hit : {K X : Type 0} (cmp : K → K → Ordering) (key : X → K) (tot : K → List X → X) (k : K) (xs zs : List X)
+map_hit : {K X : Type 0} (cmp : K → K → Ordering) (key : X → K) (tot : K → List X → X) (k : K)
+    (xs zs : List X)
     → zs ≡ at cmp key k xs → map (λ j. tot j (at cmp key j xs)) (hit k (map key zs)) ≡ whole tot k zs
 unfolding hit
 map_hit cmp key tot k xs [] e = refl
@@ -301,19 +324,28 @@ sums-at {K} {X} cmp key tot plus t xs k =
     ∙ ap (hit k) (filter-map (λ j. is_eq (cmp j k)) key xs))
     ∙ map_hit cmp key tot k xs (at cmp key k xs) refl
 
-all_mapped_keys : {K X : Type 0} (cmp : K → K → Ordering) (key : X → K) (f : K → X) → ((k : K) → key (f k) ≡ k)
+all_mapped_keys : {K X : Type 0} (cmp : K → K → Ordering) (key : X → K) (f : K → X)
+    → ((k : K) → key (f k) ≡ k)
     → (k : K) (ks : List K) → AllByRecursion (λ j. cmp k j ≡ Less) ks
     → AllByRecursion (λ x. cmp (key (f k)) (key x) ≡ Less) (map f ks)
 all_mapped_keys cmp key f back k [] h = tt
-all_mapped_keys cmp key f back k (j ∷ js) h =
-    (ap (λ l. cmp l (key (f j))) (back k) ∙ ap (cmp k) (back j) ∙ h.0, all_mapped_keys cmp key f back k js h.1)
+all_mapped_keys cmp key f back k (j ∷ js) h = (
+  ap (λ l. cmp l (key (f j))) (back k) ∙ ap (cmp k) (back j) ∙ h.0,
+  all_mapped_keys cmp key f back k js
+      h.1,
+)
 
 climbs-map : {K X : Type 0} (cmp : K → K → Ordering) (key : X → K) (f : K → X) → ((k : K) → key (f k) ≡ k)
     → (ks : List K) → Climbs cmp (λ j. j) ks → Climbs cmp key (map f ks)
 climbs-map cmp key f back [] h = tt
-climbs-map cmp key f back (k ∷ ks) h = (all_mapped_keys cmp key f back k ks h.0, climbs-map cmp key f back ks h.1)
+climbs-map cmp key f back (k ∷ ks) h = (
+  all_mapped_keys cmp key f back k ks h.0,
+  climbs-map cmp key f back ks
+      h.1,
+)
 
-pub sums-climbs : {K X : Type 0} (cmp : K → K → Ordering) (key : X → K) (tot : K → List X → X) (plus : X → X → X)
+pub sums-climbs : {K X : Type 0} (cmp : K → K → Ordering) (key : X → K) (tot : K → List X → X)
+    (plus : X → X → X)
     → Totals cmp key tot plus → (xs : List X) → Climbs cmp key (sums cmp key tot xs)
 sums-climbs cmp key tot plus t xs = climbs-map cmp key (λ j. tot j (at cmp key j xs))
     (λ j. t.key_of j (at cmp key j xs)) (in_order cmp (map key xs)) (in_order-climbs cmp t.order (map key xs))
@@ -333,7 +365,8 @@ at-climbs {K} {X} cmp key tot plus t k (x ∷ xs) h =
     elim (cases_Bool (is_eq (cmp (key x) k))) [
       | inl e ↦
           (let alone : at cmp key k (x ∷ xs) ≡ x ∷ [] = at-yes cmp key k x xs e
-          ∙ ap (λ (ys : List X). x ∷ ys) (none-tied cmp t.order key (key x) k xs (equal-from (cmp (key x) k) e) h.0) in
+          ∙ ap (λ (ys : List X). x ∷ ys)
+          (none-tied cmp t.order key (key x) k xs (equal-from (cmp (key x) k) e) h.0) in
           alone ∙ ap (λ y. y ∷ []) (sym (one_at cmp key tot plus t k x e)) ∙ ap (whole tot k) (sym alone))
       | inr e ↦ at-no cmp key k x xs e ∙ at-climbs cmp key tot plus t k xs h.1
           ∙ ap (whole tot k) (sym (at-no cmp key k x xs e))
@@ -349,7 +382,8 @@ merged-above : {K X : Type 0} (cmp : K → K → Ordering) (key : X → K) (tot 
     → AllByRecursion (λ y. cmp k (key y) ≡ Less) (merged (by_key cmp key) plus xs ys)
 unfolding merged
 merged-above cmp key tot plus t k [] ys h g = g
-merged-above {K} {X} cmp key tot plus t k (x ∷ xs) ys h g = go ys g (λ zs l. merged-above cmp key tot plus t k xs zs
+merged-above {K} {X} cmp key tot plus t k (x ∷ xs) ys h g =
+    go ys g (λ zs l. merged-above cmp key tot plus t k xs zs
     h.1 l)
   where
     go : (zs : List X) → AllByRecursion (λ y. cmp k (key y) ≡ Less) zs
@@ -359,8 +393,8 @@ merged-above {K} {X} cmp key tot plus t k (x ∷ xs) ys h g = go ys g (λ zs l. 
     go [] l rest = h
     go (y ∷ ws) l rest =
         elim (cmp (key x) (key y)) as (λ o. AllByRecursion (λ y. cmp k (key y) ≡ Less) (pick o
-            (x ∷ merged (by_key cmp key) plus xs (y ∷ ws)) (plus x y ∷ merged (by_key cmp key) plus xs ws)
-            (y ∷ merged (by_key cmp key) plus (x ∷ xs) ws))) [
+        (x ∷ merged (by_key cmp key) plus xs (y ∷ ws)) (plus x y ∷ merged (by_key cmp key) plus xs ws)
+        (y ∷ merged (by_key cmp key) plus (x ∷ xs) ws))) [
           | Less ↦ (h.0, rest (y ∷ ws) l)
           | Equal ↦ (ap (cmp k) (t.key_plus x y) ∙ h.0, rest ws l.1)
           | Greater ↦ (l.0, go ws l.1 rest)
@@ -373,12 +407,14 @@ above_same cmp key j k xs e h = subst (λ l. AllByRecursion (λ y. cmp l (key y)
 picked : {A : Type 0} (o p : Ordering) (a b c : A) → o ≡ p → pick o a b c ≡ pick p a b c
 picked o p a b c e = ap (λ q. pick q a b c) e
 
-pub merged-climbs : {K X : Type 0} (cmp : K → K → Ordering) (key : X → K) (tot : K → List X → X) (plus : X → X → X)
+pub merged-climbs : {K X : Type 0} (cmp : K → K → Ordering) (key : X → K) (tot : K → List X → X)
+    (plus : X → X → X)
     → Totals cmp key tot plus → (xs ys : List X) → Climbs cmp key xs → Climbs cmp key ys
     → Climbs cmp key (merged (by_key cmp key) plus xs ys)
 unfolding merged
 merged-climbs cmp key tot plus t [] ys h g = g
-merged-climbs {K} {X} cmp key tot plus t (x ∷ xs) ys h g = go ys g (λ zs l. merged-climbs cmp key tot plus t xs zs
+merged-climbs {K} {X} cmp key tot plus t (x ∷ xs) ys h g =
+    go ys g (λ zs l. merged-climbs cmp key tot plus t xs zs
     h.1 l)
   where
     go : (zs : List X) → Climbs cmp key zs
@@ -389,25 +425,32 @@ merged-climbs {K} {X} cmp key tot plus t (x ∷ xs) ys h g = go ys g (λ zs l. m
         elim (ordering_cases (cmp (key x) (key y))) [
           | inl e ↦ subst (Climbs cmp key) (sym (picked (cmp (key x) (key y)) Less
               (x ∷ merged (by_key cmp key) plus xs (y ∷ ws)) (plus x y ∷ merged (by_key cmp key) plus xs ws)
-              (y ∷ merged (by_key cmp key) plus (x ∷ xs) ws) e))
-              (merged-above cmp key tot plus t (key x) xs (y ∷ ws) h.0 (all_above cmp t.order key (key x) y ws e l),
-              rest (y ∷ ws) l)
+              (y ∷ merged (by_key cmp key) plus (x ∷ xs) ws) e)) (
+                merged-above cmp key tot plus t (key x) xs (y ∷ ws) h.0
+                    (all_above cmp t.order key (key x) y ws e l),
+                rest (y ∷ ws) l,
+              )
           | inr f ↦
               elim f [
                 | inl e ↦ subst (Climbs cmp key) (sym (picked (cmp (key x) (key y)) Equal
-                    (x ∷ merged (by_key cmp key) plus xs (y ∷ ws)) (plus x y ∷ merged (by_key cmp key) plus xs ws)
-                    (y ∷ merged (by_key cmp key) plus (x ∷ xs) ws) e))
-                    (merged-above cmp key tot plus t (key (plus x y)) xs ws
-                    (above_same cmp key (key x) (key (plus x y)) xs (sym (t.key_plus x y)) h.0)
-                    (above_same cmp key (key y) (key (plus x y)) ws
-                    (sym (t.same (key x) (key y) e) ∙ sym (t.key_plus x y)) l.0),
-                    rest ws l.1)
+                    (x ∷ merged (by_key cmp key) plus xs (y ∷ ws))
+                    (plus x y ∷ merged (by_key cmp key) plus xs ws)
+                    (y ∷ merged (by_key cmp key) plus (x ∷ xs) ws) e)) (
+                      merged-above cmp key tot plus t (key (plus x y)) xs ws
+                          (above_same cmp key (key x) (key (plus x y)) xs (sym (t.key_plus x y)) h.0)
+                          (above_same cmp key (key y) (key (plus x y)) ws
+                          (sym (t.same (key x) (key y) e) ∙ sym (t.key_plus x y)) l.0),
+                      rest ws l.1,
+                    )
                 | inr e ↦ subst (Climbs cmp key) (sym (picked (cmp (key x) (key y)) Greater
-                    (x ∷ merged (by_key cmp key) plus xs (y ∷ ws)) (plus x y ∷ merged (by_key cmp key) plus xs ws)
-                    (y ∷ merged (by_key cmp key) plus (x ∷ xs) ws) e))
-                    (merged-above cmp key tot plus t (key y) (x ∷ xs) ws
-                    (all_above cmp t.order key (key y) x xs (turned_back cmp t.order (key x) (key y) e) h) l.0,
-                    go ws l.1 rest)
+                    (x ∷ merged (by_key cmp key) plus xs (y ∷ ws))
+                    (plus x y ∷ merged (by_key cmp key) plus xs ws)
+                    (y ∷ merged (by_key cmp key) plus (x ∷ xs) ws) e)) (
+                      merged-above cmp key tot plus t (key y) (x ∷ xs) ws
+                          (all_above cmp t.order key (key y) x xs (turned_back cmp t.order (key x) (key y) e) h)
+                          l.0,
+                      go ws l.1 rest,
+                    )
               ]
         ]
 
@@ -426,22 +469,24 @@ next-at {K} {X} cmp key tot plus t k z zs us vs h hit_z miss_z rest =
     ]
 
 -- two lists in order, merged, have at each key what both have there
-pub merged-at : {K X : Type 0} (cmp : K → K → Ordering) (key : X → K) (tot : K → List X → X) (plus : X → X → X)
+pub merged-at : {K X : Type 0} (cmp : K → K → Ordering) (key : X → K) (tot : K → List X → X)
+    (plus : X → X → X)
     → Totals cmp key tot plus → (k : K) (xs ys : List X) → Climbs cmp key xs → Climbs cmp key ys
     → at cmp key k (merged (by_key cmp key) plus xs ys) ≡ whole tot k (at cmp key k xs ++ at cmp key k ys)
 unfolding merged
 merged-at cmp key tot plus t k [] ys h g = at-climbs cmp key tot plus t k ys g
 merged-at {K} {X} cmp key tot plus t k (x ∷ xs) ys h g =
     go ys g (λ zs l. merged-at cmp key tot plus t k xs zs h.1 l)
-        (λ zs l. merged-climbs cmp key tot plus t (x ∷ xs) zs h l)
-        (λ zs l. merged-climbs cmp key tot plus t xs zs h.1 l)
+    (λ zs l. merged-climbs cmp key tot plus t (x ∷ xs) zs h l)
+    (λ zs l. merged-climbs cmp key tot plus t xs zs h.1 l)
   where
     M : List X → List X → List X
     M us vs = merged (by_key cmp key) plus us vs
 
     go : (zs : List X) → Climbs cmp key zs
         → ((ws : List X) → Climbs cmp key ws
-        → at cmp key k (merged (by_key cmp key) plus xs ws) ≡ whole tot k (at cmp key k xs ++ at cmp key k ws))
+        → at cmp key k (merged (by_key cmp key) plus xs ws) ≡ whole tot k
+        (at cmp key k xs ++ at cmp key k ws))
         → ((ws : List X) → Climbs cmp key ws → Climbs cmp key (merged (by_key cmp key) plus (x ∷ xs) ws))
         → ((ws : List X) → Climbs cmp key ws → Climbs cmp key (merged (by_key cmp key) plus xs ws))
         → at cmp key k (merged (by_key cmp key) plus (x ∷ xs) zs) ≡ whole tot k
@@ -458,8 +503,10 @@ merged-at {K} {X} cmp key tot plus t k (x ∷ xs) ys h g =
               ∙ next-at cmp key tot plus t k x (merged (by_key cmp key) plus xs (y ∷ ws))
               (at cmp key k (x ∷ xs) ++ at cmp key k (y ∷ ws)) (at cmp key k xs ++ at cmp key k (y ∷ ws))
               (merged-above cmp key tot plus t (key x) xs (y ∷ ws) h.0 behind)
-              (λ i. ap (whole tot k) (ap (λ (us : List X). us ++ at cmp key k (y ∷ ws)) (at-yes cmp key k x xs i
-              ∙ ap (λ (us : List X). x ∷ us) (none-tied cmp t.order key (key x) k xs (equal-from (cmp (key x) k) i) h.0))
+              (λ i. ap (whole tot k) (ap (λ (us : List X). us ++ at cmp key k (y ∷ ws))
+              (at-yes cmp key k x xs i
+              ∙ ap (λ (us : List X). x ∷ us)
+              (none-tied cmp t.order key (key x) k xs (equal-from (cmp (key x) k) i) h.0))
               ∙ ap (λ (us : List X). x ∷ us)
               (none-tied cmp t.order key (key x) k (y ∷ ws) (equal-from (cmp (key x) k) i) behind))
               ∙ ap (λ z. z ∷ []) (one_at cmp key tot plus t k x i))
@@ -473,9 +520,11 @@ merged-at {K} {X} cmp key tot plus t k (x ∷ xs) ys h g =
                     λ (b : Bool) (i : is_eq (cmp (key (plus x y)) k) ≡ b). ap (λ j. is_eq (cmp j k))
                     (sym (t.key_plus x y)) ∙ i in
                     let turn_y : (b : Bool) → is_eq (cmp (key (plus x y)) k) ≡ b → is_eq (cmp (key y) k) ≡ b =
-                    λ (b : Bool) (i : is_eq (cmp (key (plus x y)) k) ≡ b). ap (λ j. is_eq (cmp j k)) (sym same) ∙ i in
+                    λ (b : Bool) (i : is_eq (cmp (key (plus x y)) k) ≡ b). ap (λ j. is_eq (cmp j k))
+                    (sym same) ∙ i in
                     ap (at cmp key k) (picked (cmp (key x) (key y)) Equal
-                    (x ∷ merged (by_key cmp key) plus xs (y ∷ ws)) (plus x y ∷ merged (by_key cmp key) plus xs ws)
+                    (x ∷ merged (by_key cmp key) plus xs (y ∷ ws))
+                    (plus x y ∷ merged (by_key cmp key) plus xs ws)
                     (y ∷ merged (by_key cmp key) plus (x ∷ xs) ws) e)
                     ∙ next-at cmp key tot plus t k (plus x y) (merged (by_key cmp key) plus xs ws)
                     (at cmp key k (x ∷ xs) ++ at cmp key k (y ∷ ws)) (at cmp key k xs ++ at cmp key k ws)
@@ -491,17 +540,20 @@ merged-at {K} {X} cmp key tot plus t k (x ∷ xs) ys h g =
                     (equal-from (cmp (key y) k) (turn_y true i)) l.0)))
                     ∙ ap (λ z. z ∷ []) (ap (λ j. tot j (x ∷ y ∷ []))
                     (sym (t.same (key x) k (equal-from (cmp (key x) k) (turn true i)))) ∙ t.two x y))
-                    (λ i. ap (λ (us : List X). us ++ at cmp key k (y ∷ ws)) (at-no cmp key k x xs (turn false i))
+                    (λ i. ap (λ (us : List X). us ++ at cmp key k (y ∷ ws))
+                    (at-no cmp key k x xs (turn false i))
                     ∙ ap (λ (us : List X). at cmp key k xs ++ us) (at-no cmp key k y ws (turn_y false i)))
                     (rest ws l.1))
                 | inr e ↦
                     (let back = turned_back cmp t.order (key x) (key y) e in
                     let behind = all_above cmp t.order key (key y) x xs back h in
                     ap (at cmp key k) (picked (cmp (key x) (key y)) Greater
-                    (x ∷ merged (by_key cmp key) plus xs (y ∷ ws)) (plus x y ∷ merged (by_key cmp key) plus xs ws)
+                    (x ∷ merged (by_key cmp key) plus xs (y ∷ ws))
+                    (plus x y ∷ merged (by_key cmp key) plus xs ws)
                     (y ∷ merged (by_key cmp key) plus (x ∷ xs) ws) e)
                     ∙ next-at cmp key tot plus t k y (merged (by_key cmp key) plus (x ∷ xs) ws)
-                    (at cmp key k (x ∷ xs) ++ at cmp key k (y ∷ ws)) (at cmp key k (x ∷ xs) ++ at cmp key k ws)
+                    (at cmp key k (x ∷ xs) ++ at cmp key k (y ∷ ws)) (at cmp key k (x ∷ xs)
+                    ++ at cmp key k ws)
                     (merged-above cmp key tot plus t (key y) (x ∷ xs) ws behind l.0)
                     (λ i. ap (whole tot k) (ap (λ (us : List X). us ++ at cmp key k (y ∷ ws))
                     (none-tied cmp t.order key (key y) k (x ∷ xs) (equal-from (cmp (key y) k) i) behind)
@@ -514,10 +566,12 @@ merged-at {K} {X} cmp key tot plus t k (x ∷ xs) ys h g =
         ]
 
 -- two lists in order, merged, are the sums over both
-pub merged-is : {K X : Type 0} (cmp : K → K → Ordering) (key : X → K) (tot : K → List X → X) (plus : X → X → X)
+pub merged-is : {K X : Type 0} (cmp : K → K → Ordering) (key : X → K) (tot : K → List X → X)
+    (plus : X → X → X)
     → Totals cmp key tot plus → (xs ys : List X) → Climbs cmp key xs → Climbs cmp key ys
     → merged (by_key cmp key) plus xs ys ≡ sums cmp key tot (xs ++ ys)
-merged-is cmp key tot plus t xs ys h g = sums-is cmp key tot plus t (merged (by_key cmp key) plus xs ys) (xs ++ ys)
+merged-is cmp key tot plus t xs ys h g = sums-is cmp key tot plus t (merged (by_key cmp key) plus xs ys)
+    (xs ++ ys)
     (merged-climbs cmp key tot plus t xs ys h g)
     (λ k. merged-at cmp key tot plus t k xs ys h g
     ∙ ap (whole tot k) (sym (filter-append (λ x. is_eq (cmp (key x) k)) xs ys)))

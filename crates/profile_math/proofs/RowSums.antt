@@ -1,5 +1,6 @@
 -- Rows of flat profiles in the order of their functions.
-use Rattle.std.proofs.Common.{◌≡◌, ℕ, ◌+◌, ◌==◌, Bool, List, [], ◌∷◌, ◌++◌, map, filter, refl, ap, sym, ◌∙◌, zero-add}
+use Rattle.std.proofs.Common.{◌≡◌, ℕ, ◌+◌, ◌==◌, Bool, List, [], ◌∷◌, ◌++◌, map, filter, refl, ap, sym, ◌∙◌}
+use Rattle.std.proofs.Common.{zero-add}
 use Rattle.std.specs.Cmp.{unsigned_ties}
 use Rattle.std.specs.FinMap.{nat_cmp-IsAntisymmetric}
 use Rattle.std.specs.Ordering.{nat_cmp, is_eq}
@@ -11,7 +12,8 @@ use Rattle.profile_math.specs.Merging.{merged}
 use Rattle.profile_math.specs.InOrder.{in_order}
 use Rattle.profile_math.specs.Sum.{row_total, rows_for, functions_of, by_function, row_place, row_plus}
 use Rattle.profile_math.specs.Sum.{sum_of, RisesByFunction}
-use Rattle.profile_math.proofs.Keyed.{at, whole, sums, Climbs, Totals, climbs-from, sorted-from, sums-is, sums-climbs}
+use Rattle.profile_math.proofs.Keyed.{at, whole, sums, Climbs, Totals, climbs-from, sorted-from, sums-is}
+use Rattle.profile_math.proofs.Keyed.{sums-climbs}
 use Rattle.profile_math.proofs.Keyed.{merged-is}
 
 abbrev pub func_of : Row → ℕ
@@ -29,15 +31,18 @@ row_totals = record {
 
 -- the rows of a function by the test of equal functions
 pub rows_for-at : (f : ℕ) (rows : List Row) → rows_for f rows ≡ at nat_cmp func_of f rows
-rows_for-at f rows = filter_agree (λ r. r.func == f) (λ r. is_eq (nat_cmp r.func f)) (λ r. unsigned_ties r.func f) rows
+rows_for-at f rows = filter_agree (λ r. r.func == f) (λ r. is_eq (nat_cmp r.func f))
+    (λ r. unsigned_ties r.func f) rows
 
 map_agree : {X Y : Type 0} (f g : X → Y) → ((x : X) → f x ≡ g x) → (xs : List X) → map f xs ≡ map g xs
 map_agree f g h [] = refl
-map_agree {X} {Y} f g h (x ∷ xs) = ap (λ y. y ∷ map f xs) (h x) ∙ ap (λ (ys : List Y). g x ∷ ys) (map_agree f g h xs)
+map_agree {X} {Y} f g h (x ∷ xs) = ap (λ y. y ∷ map f xs) (h x) ∙ ap (λ (ys : List Y). g x ∷ ys)
+    (map_agree f g h xs)
 
 pub by_function-is : (rows : List Row) → by_function rows ≡ sums nat_cmp func_of row_total rows
 unfolding by_function
-by_function-is rows = map_agree (λ f. row_total f (rows_for f rows)) (λ f. row_total f (at nat_cmp func_of f rows))
+by_function-is rows = map_agree (λ f. row_total f (rows_for f rows))
+    (λ f. row_total f (at nat_cmp func_of f rows))
     (λ f. ap (row_total f) (rows_for-at f rows)) (functions_of rows)
 
 pub by_function-rises : (rows : List Row) → RisesByFunction (by_function rows)
@@ -47,7 +52,8 @@ by_function-rises rows = rw by_function-is (sorted-from nat_cmp func_of (sums na
 -- two profiles' rows merged are their sum
 pub merged_rows : (xs ys : List Row) → RisesByFunction xs → RisesByFunction ys
     → merged row_place row_plus xs ys ≡ by_function (xs ++ ys)
-merged_rows xs ys h g = merged-is nat_cmp func_of row_total row_plus row_totals xs ys (climbs-from nat_cmp func_of xs h)
+merged_rows xs ys h g = merged-is nat_cmp func_of row_total row_plus row_totals xs ys
+    (climbs-from nat_cmp func_of xs h)
     (climbs-from nat_cmp func_of ys g) ∙ sym (by_function-is (xs ++ ys))
 
 -- the rows of a sum
@@ -59,7 +65,8 @@ sum_rows p q h g = merged_rows p.rows q.rows h g
 pub sum_is : (p q : Profile) (rows : List Row) → rows ≡ (sum_of p q).rows
     → record { bare = p.bare + q.bare; rows = rows } ≡ sum_of p q
 unfolding sum_of
-sum_is p q rows e = ap (λ (us : List Row). let s : Profile = record { bare = p.bare + q.bare; rows = us } in s) e
+sum_is p q rows e = ap (λ (us : List Row). let s : Profile = record { bare = p.bare + q.bare; rows = us }
+    in s) e
 
 pub sum-rises : (p q : Profile) → RisesByFunction (sum_of p q).rows
 unfolding sum_of

@@ -1,7 +1,10 @@
 -- All time of a stream is bare, or has one innermost function.
-use Rattle.std.proofs.Common.{◌≡◌, ℕ, ◌+◌, ◌-◌, ◌<◌, ◌≤◌, ◌==◌, zero, suc, Bool, true, false, cond, ◌||◌, List, [], ◌∷◌}
-use Rattle.std.proofs.Common.{◌++◌, length, take, get_or, map, filter, fold, sum_by, nat_le, nat_lt, refl, ap, sym, ◌∙◌}
-use Rattle.std.proofs.Common.{inl, inr, arith, zero-add, add-zero, slice_get, Option, Some, subst, eq-eqb, add-one}
+use Rattle.std.proofs.Common.{◌≡◌, ℕ, ◌+◌, ◌-◌, ◌<◌, ◌≤◌, ◌==◌, zero, suc, Bool, true, false, cond, ◌||◌}
+use Rattle.std.proofs.Common.{List, [], ◌∷◌}
+use Rattle.std.proofs.Common.{◌++◌, length, take, get_or, map, filter, fold, sum_by, nat_le, nat_lt, refl, ap}
+use Rattle.std.proofs.Common.{sym, ◌∙◌}
+use Rattle.std.proofs.Common.{inl, inr, arith, zero-add, add-zero, slice_get, Option, Some, subst, eq-eqb}
+use Rattle.std.proofs.Common.{add-one}
 use Rattle.std.specs.List.{AllByRecursion, list_any, range_with_len}
 use Rattle.std.specs.Option.{option_map_or}
 use Rattle.std.proofs.lemmas.Bool.{cases_Bool, cases_eq, cases_lt, ne_eqb, true≢false, cond-true, cond-false}
@@ -18,7 +21,8 @@ use Rattle.profile_math.proofs.Times.{sum_by-filter, sum_by-plus, AllFunctions, 
 
 -- a property that is one of two others, which exclude each other, wherever the stream's call stack is
 pub time-split : (has h1 h2 : List ℕ → Bool) (a b : ℕ) (s : TrackStream)
-    → ((i : ℕ) (c : ℕ) → cond (has (stack_after (take i s.events))) c 0 ≡ cond (h1 (stack_after (take i s.events))) c 0
+    → ((i : ℕ) (c : ℕ) → cond (has (stack_after (take i s.events))) c 0 ≡ cond
+    (h1 (stack_after (take i s.events))) c 0
     + cond (h2 (stack_after (take i s.events))) c 0)
     → time_with has a b s ≡ time_with h1 a b s + time_with h2 a b s
 unfolding time_with pieces
@@ -28,17 +32,23 @@ time-split has h1 h2 a b s h =
     ∙ sym (ap (λ n. n + sum_by (clip a b) (filter (λ p. h2 p.stack) (map (piece s)
     (range_with_len 0 (length s.events + 1)))))
     (sum_by-filter (clip a b) (λ p. h1 p.stack) (map (piece s) (range_with_len 0 (length s.events + 1))))
-    ∙ ap (λ n. sum_by (λ p. cond (h1 p.stack) (clip a b p) 0) (map (piece s) (range_with_len 0 (length s.events + 1)))
-    + n) (sum_by-filter (clip a b) (λ p. h2 p.stack) (map (piece s) (range_with_len 0 (length s.events + 1)))))
+    ∙ ap (λ n. sum_by (λ p. cond (h1 p.stack) (clip a b p) 0)
+    (map (piece s) (range_with_len 0 (length s.events + 1)))
+    + n) (sum_by-filter (clip a b) (λ p. h2 p.stack)
+    (map (piece s) (range_with_len 0 (length s.events + 1)))))
   where
     go : (is : List ℕ) → sum_by (λ p. cond (has p.stack) (clip a b p) 0) (map (piece s) is)
         ≡ sum_by (λ p. cond (h1 p.stack) (clip a b p) 0) (map (piece s) is)
         + sum_by (λ p. cond (h2 p.stack) (clip a b p) 0) (map (piece s) is)
     go [] = refl
-    go (i ∷ is) = omega (arith, go is, h i (clip a b (piece s i)),
-        sum_by-cons (λ p. cond (has p.stack) (clip a b p) 0) (piece s i) (map (piece s) is),
-        sum_by-cons (λ p. cond (h1 p.stack) (clip a b p) 0) (piece s i) (map (piece s) is),
-        sum_by-cons (λ p. cond (h2 p.stack) (clip a b p) 0) (piece s i) (map (piece s) is))
+    go (i ∷ is) = omega (
+      arith,
+      go is,
+      h i (clip a b (piece s i)),
+      sum_by-cons (λ p. cond (has p.stack) (clip a b p) 0) (piece s i) (map (piece s) is),
+      sum_by-cons (λ p. cond (h1 p.stack) (clip a b p) 0) (piece s i) (map (piece s) is),
+      sum_by-cons (λ p. cond (h2 p.stack) (clip a b p) 0) (piece s i) (map (piece s) is),
+    )
 
 -- two properties that the stream's call stacks have alike
 pub time-same : (has more : List ℕ → Bool) (a b : ℕ) (s : TrackStream)
@@ -48,14 +58,19 @@ unfolding time_with pieces
 time-same has more a b s h =
     sum_by-filter (clip a b) (λ p. has p.stack) (map (piece s) (range_with_len 0 (length s.events + 1)))
     ∙ go (range_with_len 0 (length s.events + 1))
-    ∙ sym (sum_by-filter (clip a b) (λ p. more p.stack) (map (piece s) (range_with_len 0 (length s.events + 1))))
+    ∙ sym (sum_by-filter (clip a b) (λ p. more p.stack)
+    (map (piece s) (range_with_len 0 (length s.events + 1))))
   where
     go : (is : List ℕ) → sum_by (λ p. cond (has p.stack) (clip a b p) 0) (map (piece s) is)
         ≡ sum_by (λ p. cond (more p.stack) (clip a b p) 0) (map (piece s) is)
     go [] = refl
-    go (i ∷ is) = omega (arith, go is, ap (λ (t : Bool). cond t (clip a b (piece s i)) 0) (h i),
-        sum_by-cons (λ p. cond (has p.stack) (clip a b p) 0) (piece s i) (map (piece s) is),
-        sum_by-cons (λ p. cond (more p.stack) (clip a b p) 0) (piece s i) (map (piece s) is))
+    go (i ∷ is) = omega (
+      arith,
+      go is,
+      ap (λ (t : Bool). cond t (clip a b (piece s i)) 0) (h i),
+      sum_by-cons (λ p. cond (has p.stack) (clip a b p) 0) (piece s i) (map (piece s) is),
+      sum_by-cons (λ p. cond (more p.stack) (clip a b p) 0) (piece s i) (map (piece s) is),
+    )
 
 -- the innermost function, 0 where no call is open
 pub last_of : List ℕ → ℕ
@@ -108,7 +123,8 @@ pub own_time-suc : (a b : ℕ) (s : TrackStream) (n : ℕ) → own_time a b s (s
 unfolding own_time
 own_time-suc a b s n = refl
 
-upto-time : (a b : ℕ) (s : TrackStream) (n : ℕ) → time_with (last_upto n) a b s ≡ time_with (last_upto 0) a b s
+upto-time : (a b : ℕ) (s : TrackStream) (n : ℕ) → time_with (last_upto n) a b s ≡ time_with (last_upto 0) a b
+    s
     + own_time a b s n
 unfolding own_time
 upto-time a b s zero = sym (add-zero (time_with (last_upto 0) a b s))
@@ -140,7 +156,8 @@ all_push : {X : Type 0} (P : X → Type 0) (xs : List X) (x : X) → AllByRecurs
 all_push P [] x h p = (p, tt)
 all_push P (y ∷ ys) x h p = (h.0, all_push P ys x h.1 p)
 
-all_take : {X : Type 0} (P : X → Type 0) (n : ℕ) (xs : List X) → AllByRecursion P xs → AllByRecursion P (take n xs)
+all_take : {X : Type 0} (P : X → Type 0) (n : ℕ) (xs : List X) → AllByRecursion P xs
+    → AllByRecursion P (take n xs)
 all_take P zero xs h = tt
 all_take P (suc n) [] h = tt
 all_take P (suc n) (x ∷ xs) h = (h.0, all_take P n xs h.1)
@@ -152,18 +169,21 @@ stack-positive (Enter f t ∷ es) q h g = stack-positive es (q ++ f ∷ []) (all
 stack-positive (Leave t ∷ es) q h g = stack-positive es (take (length q - 1) q)
     (all_take (λ k. 1 ≤ k) (length q - 1) q h) g.1
 
-stacks-positive : (s : TrackStream) → IsLegal s → (i : ℕ) → AllByRecursion (λ f. 1 ≤ f) (stack_after (take i s.events))
+stacks-positive : (s : TrackStream) → IsLegal s → (i : ℕ)
+    → AllByRecursion (λ f. 1 ≤ f) (stack_after (take i s.events))
 unfolding stack_after
 stacks-positive s legal i = stack-positive (take i s.events) [] tt (all_take positive i s.events
     (legal-positive s legal))
 
 bare-last : (q : List ℕ) → AllByRecursion (λ f. 1 ≤ f) q → last_upto 0 q ≡ is_bare q
 bare-last [] h = rw last-nil refl
-bare-last (x ∷ xs) h = let low : 1 ≤ last_of (x ∷ xs) = all-last (λ f. 1 ≤ f) x xs h in grind (arith, nat_tests)
+bare-last (x ∷ xs) h = let low : 1 ≤ last_of (x ∷ xs) = all-last (λ f. 1 ≤ f) x xs h
+    in grind (arith, nat_tests)
 
 all-upto : (n : ℕ) (q : List ℕ) → AllByRecursion (λ f. f ≤ n) q → last_upto n q ≡ true
 all-upto n [] h = rw last-nil (grind (arith, nat_tests))
-all-upto n (x ∷ xs) h = let low : last_of (x ∷ xs) ≤ n = all-last (λ f. f ≤ n) x xs h in grind (arith, nat_tests)
+all-upto n (x ∷ xs) h = let low : last_of (x ∷ xs) ≤ n = all-last (λ f. f ≤ n) x xs h
+    in grind (arith, nat_tests)
 
 -- all time is bare or some function's own
 pub all-time : (a b : ℕ) (s : TrackStream) (n : ℕ) → IsLegal s → AllFunctions n s

@@ -1,14 +1,17 @@
--- Times and calls of streams: of several streams, of two intervals one after the other, and of a property that
--- another implies.
-use Rattle.std.proofs.Common.{◌≡◌, ℕ, ◌+◌, ◌-◌, ◌<◌, ◌≤◌, ◌==◌, zero, suc, Bool, true, false, cond, ◌&&◌, ◌||◌, List, [], ◌∷◌}
-use Rattle.std.proofs.Common.{◌++◌, length, take, map, filter, fold, sum_by, count_by, min, max, nat_lt, nat_le, refl, ap}
+-- Times and calls of streams: of several streams, of two intervals one after the other, and of a property
+-- that another implies.
+use Rattle.std.proofs.Common.{◌≡◌, ℕ, ◌+◌, ◌-◌, ◌<◌, ◌≤◌, ◌==◌, zero, suc, Bool, true, false, cond, ◌&&◌}
+use Rattle.std.proofs.Common.{◌||◌, List, [], ◌∷◌}
+use Rattle.std.proofs.Common.{◌++◌, length, take, map, filter, fold, sum_by, count_by, min, max, nat_lt}
+use Rattle.std.proofs.Common.{nat_le, refl, ap}
 use Rattle.std.proofs.Common.{sym, subst, ◌∙◌, inl, inr, arith, zero-add}
 use Rattle.std.specs.List.{AllByRecursion, list_any, range_with_len}
 use Rattle.std.proofs.lemmas.Bool.{cases_Bool, cond-true, cond-false, true≢false, ne_eqb}
 use Rattle.std.proofs.lemmas.Bool.Decides.{nat_tests}
 use Rattle.std.proofs.lemmas.List.Sums.{sum_by-cons, sum_by-append, fold-append, sum_by-le-sum_by}
 use Rattle.trace_base.proofs.Order.{all_mapped, filter_none}
-use Rattle.trace_base.specs.Flat.{clip, is_within, enters_in, time_with, calls_in, function_of, greatest_function}
+use Rattle.trace_base.specs.Flat.{clip, is_within, enters_in, time_with, calls_in, function_of}
+use Rattle.trace_base.specs.Flat.{greatest_function}
 use Rattle.trace_base.specs.Stream.{Piece, piece, pieces, stack_step, stack_after}
 use Rattle.trace_base.specs.Flat.{is_open_in, is_innermost_in}
 use Rattle.std.specs.Option.{option_map_or}
@@ -22,10 +25,17 @@ use Rattle.trace_base.specs.declared.stream.TrackStream.{TrackStream}
 pub sum_by-plus : {X : Type 0} (f g h : X → ℕ) → ((x : X) → f x ≡ g x + h x) → (xs : List X)
     → sum_by f xs ≡ sum_by g xs + sum_by h xs
 sum_by-plus f g h e [] = refl
-sum_by-plus f g h e (x ∷ xs) = omega (arith, sum_by-cons f x xs, sum_by-cons g x xs, sum_by-cons h x xs, e x,
-    sum_by-plus f g h e xs)
+sum_by-plus f g h e (x ∷ xs) = omega (
+  arith,
+  sum_by-cons f x xs,
+  sum_by-cons g x xs,
+  sum_by-cons h x xs,
+  e x,
+  sum_by-plus f g h e xs,
+)
 
-pub sum_by-same : {X : Type 0} (f g : X → ℕ) → ((x : X) → f x ≡ g x) → (xs : List X) → sum_by f xs ≡ sum_by g xs
+pub sum_by-same : {X : Type 0} (f g : X → ℕ) → ((x : X) → f x ≡ g x) → (xs : List X)
+    → sum_by f xs ≡ sum_by g xs
 sum_by-same f g e [] = refl
 sum_by-same f g e (x ∷ xs) = omega (arith, sum_by-cons f x xs, sum_by-cons g x xs, e x, sum_by-same f g e xs)
 
@@ -34,11 +44,19 @@ pub sum_by-filter : {X : Type 0} (f : X → ℕ) (p : X → Bool) (xs : List X) 
 sum_by-filter f p [] = refl
 sum_by-filter f p (x ∷ xs) =
     elim (cases_Bool (p x)) [
-      | inl e ↦ ap (sum_by f) (cond-true (p x) (x ∷ filter p xs) (filter p xs) e) ∙ omega (arith,
-          sum_by-cons f x (filter p xs), sum_by-cons (λ y. cond (p y) (f y) 0) x xs,
-          cond-true (p x) (f x) 0 e, sum_by-filter f p xs)
-      | inr e ↦ ap (sum_by f) (cond-false (p x) (x ∷ filter p xs) (filter p xs) e) ∙ omega (arith,
-          sum_by-cons (λ y. cond (p y) (f y) 0) x xs, cond-false (p x) (f x) 0 e, sum_by-filter f p xs)
+      | inl e ↦ ap (sum_by f) (cond-true (p x) (x ∷ filter p xs) (filter p xs) e) ∙ omega (
+        arith,
+        sum_by-cons f x (filter p xs),
+        sum_by-cons (λ y. cond (p y) (f y) 0) x xs,
+        cond-true (p x) (f x) 0 e,
+        sum_by-filter f p xs,
+      )
+      | inr e ↦ ap (sum_by f) (cond-false (p x) (x ∷ filter p xs) (filter p xs) e) ∙ omega (
+        arith,
+        sum_by-cons (λ y. cond (p y) (f y) 0) x xs,
+        cond-false (p x) (f x) 0 e,
+        sum_by-filter f p xs,
+      )
     ]
 
 -- an interval in two parts
@@ -51,16 +69,19 @@ unfolding time_with
 time-plus has a b c h g s = sum_by-plus (clip a c) (clip a b) (clip b c) (clip-plus a b c h g)
     (filter (λ p. has p.stack) (pieces s))
 
-enters-plus : (f a b c : ℕ) → a ≤ b → b ≤ c → (e : Event) → cond (enters_in f a c e) 1 0 ≡ cond (enters_in f a b e) 1 0
+enters-plus : (f a b c : ℕ) → a ≤ b → b ≤ c → (e : Event) → cond (enters_in f a c e) 1 0 ≡ cond
+    (enters_in f a b e) 1 0
     + cond (enters_in f b c e) 1 0
 enters-plus f a b c h g (Enter k t) =
-    elim (k == f) as (λ v. cond (v && (nat_le a t && nat_lt t c)) 1 0 ≡ cond (v && (nat_le a t && nat_lt t b)) 1 0
-        + cond (v && (nat_le b t && nat_lt t c)) 1 0) [
+    elim (k == f) as (λ v. cond (v && (nat_le a t && nat_lt t c)) 1 0 ≡ cond (v && (nat_le a t && nat_lt t b))
+    1 0
+    + cond (v && (nat_le b t && nat_lt t c)) 1 0) [
       | true ↦ within-plus a b c t h g
       | false ↦ refl
     ]
   where
-    within-plus : (a b c t : ℕ) → a ≤ b → b ≤ c → cond (nat_le a t && nat_lt t c) 1 0 ≡ cond (nat_le a t && nat_lt t b) 1 0
+    within-plus : (a b c t : ℕ) → a ≤ b → b ≤ c → cond (nat_le a t && nat_lt t c) 1 0 ≡ cond
+        (nat_le a t && nat_lt t b) 1 0
         + cond (nat_le b t && nat_lt t c) 1 0
     within-plus a b c t h g = grind (arith, nat_tests)
 enters-plus f a b c h g (Leave t) = refl
@@ -72,7 +93,8 @@ calls-plus f a b c h g s = sum_by-plus (λ e. cond (enters_in f a c e) 1 0) (λ 
     (λ e. cond (enters_in f b c e) 1 0) (enters-plus f a b c h g) s.events
 
 -- the time of a property is at most that of one that it implies
-pub time-le : (has more : List ℕ → Bool) → ((q : List ℕ) → has q ≡ true → more q ≡ true) → (a b : ℕ) (s : TrackStream)
+pub time-le : (has more : List ℕ → Bool) → ((q : List ℕ) → has q ≡ true → more q ≡ true)
+    → (a b : ℕ) (s : TrackStream)
     → time_with has a b s ≤ time_with more a b s
 unfolding time_with
 time-le has more h a b s = go (pieces s)
@@ -82,25 +104,35 @@ time-le has more h a b s = go (pieces s)
     go [] = omega arith
     go (p ∷ ps) =
         elim (cases_Bool (has p.stack)) [
-          | inl e ↦ omega (arith, go ps,
-              ap (sum_by (clip a b)) (cond-true (has p.stack) (p ∷ filter (λ q. has q.stack) ps)
-              (filter (λ q. has q.stack) ps) e), sum_by-cons (clip a b) p (filter (λ q. has q.stack) ps),
-              ap (sum_by (clip a b)) (cond-true (more p.stack) (p ∷ filter (λ q. more q.stack) ps)
-              (filter (λ q. more q.stack) ps) (h p.stack e)),
-              sum_by-cons (clip a b) p (filter (λ q. more q.stack) ps))
+          | inl e ↦ omega (
+            arith,
+            go ps,
+            ap (sum_by (clip a b)) (cond-true (has p.stack) (p ∷ filter (λ q. has q.stack) ps)
+                (filter (λ q. has q.stack) ps) e),
+            sum_by-cons (clip a b) p (filter (λ q. has q.stack) ps),
+            ap (sum_by (clip a b)) (cond-true (more p.stack) (p ∷ filter (λ q. more q.stack) ps)
+                (filter (λ q. more q.stack) ps) (h p.stack e)),
+            sum_by-cons (clip a b) p (filter (λ q. more q.stack) ps),
+          )
           | inr e ↦
               elim (cases_Bool (more p.stack)) [
-                | inl m ↦ omega (arith, go ps,
-                    ap (sum_by (clip a b)) (cond-false (has p.stack) (p ∷ filter (λ q. has q.stack) ps)
-                    (filter (λ q. has q.stack) ps) e),
-                    ap (sum_by (clip a b)) (cond-true (more p.stack) (p ∷ filter (λ q. more q.stack) ps)
-                    (filter (λ q. more q.stack) ps) m),
-                    sum_by-cons (clip a b) p (filter (λ q. more q.stack) ps))
-                | inr m ↦ omega (arith, go ps,
-                    ap (sum_by (clip a b)) (cond-false (has p.stack) (p ∷ filter (λ q. has q.stack) ps)
-                    (filter (λ q. has q.stack) ps) e),
-                    ap (sum_by (clip a b)) (cond-false (more p.stack) (p ∷ filter (λ q. more q.stack) ps)
-                    (filter (λ q. more q.stack) ps) m))
+                | inl m ↦ omega (
+                  arith,
+                  go ps,
+                  ap (sum_by (clip a b)) (cond-false (has p.stack) (p ∷ filter (λ q. has q.stack) ps)
+                      (filter (λ q. has q.stack) ps) e),
+                  ap (sum_by (clip a b)) (cond-true (more p.stack) (p ∷ filter (λ q. more q.stack) ps)
+                      (filter (λ q. more q.stack) ps) m),
+                  sum_by-cons (clip a b) p (filter (λ q. more q.stack) ps),
+                )
+                | inr m ↦ omega (
+                  arith,
+                  go ps,
+                  ap (sum_by (clip a b)) (cond-false (has p.stack) (p ∷ filter (λ q. has q.stack) ps)
+                      (filter (λ q. has q.stack) ps) e),
+                  ap (sum_by (clip a b)) (cond-false (more p.stack) (p ∷ filter (λ q. more q.stack) ps)
+                      (filter (λ q. more q.stack) ps) m),
+                )
               ]
         ]
 
@@ -123,11 +155,15 @@ unfolding greatest_from
 streams-greatest [] z = (omega arith, tt)
 streams-greatest (s ∷ ss) z =
     let own = events-greatest s.events z in
-    let rest = streams-greatest ss (fold (λ m e. max m (function_of e)) z s.events) in
-    (omega (arith, own.0, rest.0),
-    (all_mapped (λ e. function_of e ≤ fold (λ m d. max m (function_of d)) z s.events)
-    (λ e. function_of e ≤ greatest_from (fold (λ m d. max m (function_of d)) z s.events) ss)
-    (λ e l. omega (arith, rest.0)) s.events own.1, rest.1))
+    let rest = streams-greatest ss (fold (λ m e. max m (function_of e)) z s.events) in (
+      omega (arith, own.0, rest.0),
+      (
+        all_mapped (λ e. function_of e ≤ fold (λ m d. max m (function_of d)) z s.events)
+            (λ e. function_of e ≤ greatest_from (fold (λ m d. max m (function_of d)) z s.events) ss)
+            (λ e l. omega (arith, rest.0)) s.events own.1,
+        rest.1,
+      ),
+    )
 
 pub greatest-all : (ss : List TrackStream) → AllByRecursion (AllFunctions (greatest_function ss)) ss
 unfolding greatest_function greatest_from
@@ -136,7 +172,8 @@ greatest-all ss = (streams-greatest ss 0).1
 events-monotone : (es : List Event) (y z : ℕ) → y ≤ z → fold (λ m e. max m (function_of e)) y es
     ≤ fold (λ m e. max m (function_of e)) z es
 events-monotone [] y z h = h
-events-monotone (e ∷ es) y z h = events-monotone es (max y (function_of e)) (max z (function_of e)) (omega arith)
+events-monotone (e ∷ es) y z h = events-monotone es (max y (function_of e)) (max z (function_of e))
+    (omega arith)
 
 streams-monotone : (ss : List TrackStream) (y z : ℕ) → y ≤ z → greatest_from y ss ≤ greatest_from z ss
 unfolding greatest_from
@@ -148,16 +185,18 @@ pub greatest-append : (ss ts : List TrackStream) → (greatest_function ss ≤ g
     × (greatest_function ts ≤ greatest_function (ss ++ ts))
 unfolding greatest_function greatest_from
 greatest-append ss ts =
-    let split = fold-append (λ n (s : TrackStream). fold (λ m e. max m (function_of e)) n s.events) 0 ss ts in
-    (omega (arith, split, (streams-greatest ts (greatest_from 0 ss)).0),
-    omega (arith, split, streams-monotone ts 0 (greatest_from 0 ss) (omega arith)))
+    let split = fold-append (λ n (s : TrackStream). fold (λ m e. max m (function_of e)) n s.events) 0 ss ts in (
+      omega (arith, split, (streams-greatest ts (greatest_from 0 ss)).0),
+      omega (arith, split, streams-monotone ts 0 (greatest_from 0 ss) (omega arith)),
+    )
 
 all_push : {X : Type 0} (P : X → Type 0) (xs : List X) (x : X) → AllByRecursion P xs → P x
     → AllByRecursion P (xs ++ x ∷ [])
 all_push P [] x h p = (p, tt)
 all_push P (y ∷ ys) x h p = (h.0, all_push P ys x h.1 p)
 
-all_take : {X : Type 0} (P : X → Type 0) (n : ℕ) (xs : List X) → AllByRecursion P xs → AllByRecursion P (take n xs)
+all_take : {X : Type 0} (P : X → Type 0) (n : ℕ) (xs : List X) → AllByRecursion P xs
+    → AllByRecursion P (take n xs)
 all_take P zero xs h = tt
 all_take P (suc n) [] h = tt
 all_take P (suc n) (x ∷ xs) h = (h.0, all_take P n xs h.1)
@@ -166,7 +205,8 @@ all_take P (suc n) (x ∷ xs) h = (h.0, all_take P n xs h.1)
 stack-all : (n : ℕ) (es : List Event) (stack : List ℕ) → AllByRecursion (λ f. f ≤ n) stack
     → AllByRecursion (λ e. function_of e ≤ n) es → AllByRecursion (λ f. f ≤ n) (fold stack_step stack es)
 stack-all n [] stack h g = h
-stack-all n (Enter f t ∷ es) stack h g = stack-all n es (stack ++ f ∷ []) (all_push (λ k. k ≤ n) stack f h g.0) g.1
+stack-all n (Enter f t ∷ es) stack h g = stack-all n es (stack ++ f ∷ [])
+    (all_push (λ k. k ≤ n) stack f h g.0) g.1
 stack-all n (Leave t ∷ es) stack h g = stack-all n es (take (length stack - 1) stack)
     (all_take (λ k. k ≤ n) (length stack - 1) stack h) g.1
 
@@ -178,7 +218,8 @@ stacks-all n i s h = stack-all n (take i s.events) [] tt (all_take (λ e. functi
 none_open : (f n : ℕ) → n < f → (stack : List ℕ) → AllByRecursion (λ k. k ≤ n) stack
     → list_any (λ g. g == f) stack ≡ false
 none_open f n l [] h = refl
-none_open f n l (g ∷ gs) h = ap (λ b. b || list_any (λ k. k == f) gs) (ne_eqb g f (λ e. omega (arith, h.0, e)))
+none_open f n l (g ∷ gs) h = ap (λ b. b || list_any (λ k. k == f) gs)
+    (ne_eqb g f (λ e. omega (arith, h.0, e)))
     ∙ none_open f n l gs h.1
 
 -- no time has a property that no call stack of the stream has
@@ -195,11 +236,20 @@ time-none has a b s h = ap (sum_by (clip a b)) (filter_none (λ p. has p.stack)
 calls-none : (f n a b : ℕ) → n < f → (es : List Event) → AllByRecursion (λ e. function_of e ≤ n) es
     → count_by (enters_in f a b) es ≡ 0
 calls-none f n a b l [] h = refl
-calls-none f n a b l (Enter g t ∷ es) h = omega (arith, sum_by-cons (λ e. cond (enters_in f a b e) 1 0) (Enter g t) es,
-    calls-none f n a b l es h.1, ap {B = ℕ} (λ (v : Bool). cond (v && (nat_le a t && nat_lt t b)) 1 0)
-    (ne_eqb g f (λ e. omega (arith, h.0, e))))
-calls-none f n a b l (Leave t ∷ es) h = omega (arith, sum_by-cons (λ e. cond (enters_in f a b e) 1 0) (Leave t) es,
-    calls-none f n a b l es h.1)
+calls-none f n a b l (Enter g t ∷ es) h =
+    omega (
+      arith,
+      sum_by-cons (λ e. cond (enters_in f a b e) 1 0) (Enter g t) es,
+      calls-none f n a b l es h.1,
+      ap {B = ℕ} (λ (v : Bool). cond (v && (nat_le a t && nat_lt t b)) 1 0)
+          (ne_eqb g f (λ e. omega (arith, h.0, e))),
+    )
+calls-none f n a b l (Leave t ∷ es) h = omega (
+  arith,
+  sum_by-cons (λ e. cond (enters_in f a b e) 1 0)
+      (Leave t) es,
+  calls-none f n a b l es h.1,
+)
 
 sum-none : {X : Type 0} (f : X → ℕ) (P : X → Type 0) → ((x : X) → P x → f x ≡ 0) → (xs : List X)
     → AllByRecursion P xs → sum_by f xs ≡ 0
@@ -207,7 +257,8 @@ sum-none f P z [] h = refl
 sum-none f P z (x ∷ xs) h = omega (arith, sum_by-cons f x xs, z x h.0, sum-none f P z xs h.1)
 
 -- a function above the greatest one has no calls and no time
-pub past-calls : (ss : List TrackStream) (f a b : ℕ) → greatest_function ss < f → sum_by (calls_in f a b) ss ≡ 0
+pub past-calls : (ss : List TrackStream) (f a b : ℕ) → greatest_function ss < f
+    → sum_by (calls_in f a b) ss ≡ 0
 unfolding calls_in
 past-calls ss f a b l = sum-none (calls_in f a b) (AllFunctions (greatest_function ss))
     (λ s h. calls-none f (greatest_function ss) a b l s.events h) ss (greatest-all ss)
@@ -215,7 +266,8 @@ past-calls ss f a b l = sum-none (calls_in f a b) (AllFunctions (greatest_functi
 pub past-time : (ss : List TrackStream) (f a b : ℕ) → greatest_function ss < f
     → sum_by (time_with (is_open_in f) a b) ss ≡ 0
 past-time ss f a b l = sum-none (time_with (is_open_in f) a b) (AllFunctions (greatest_function ss))
-    (λ s h. time-none (is_open_in f) a b s (λ i. none_open f (greatest_function ss) l (stack_after (take i s.events))
+    (λ s h. time-none (is_open_in f) a b s
+    (λ i. none_open f (greatest_function ss) l (stack_after (take i s.events))
     (stacks-all (greatest_function ss) i s h))) ss (greatest-all ss)
 
 -- an innermost call is an open one

@@ -1,4 +1,5 @@
--- What the sum and the closing of profiles have to do with the profiles of streams. Any interval is half-open.
+-- What the sum and the closing of profiles have to do with the profiles of streams. Any interval is
+-- half-open.
 use Rattle.std.specs.Prelude.{◌≡◌, ℕ, ◌≤◌, List, [], ◌∷◌, ◌++◌}
 use Rattle.trace_base.specs.Flat.{flat, is_within}
 use Rattle.trace_base.specs.Stream.{IsLegal}

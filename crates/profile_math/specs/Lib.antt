@@ -1,4 +1,5 @@
 pub mod Closing
+pub mod Examples
 pub mod InOrder
 pub mod Laws
 pub mod Merging

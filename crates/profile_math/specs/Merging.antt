@@ -1,5 +1,5 @@
--- Two lists of rows merged into one: what the pass over them gives, whatever the rows are. `place` tells which of
--- two rows stands first, `plus` adds two rows that stand at one place.
+-- Two lists of rows merged into one: what the pass over them gives, whatever the rows are. `place` tells
+-- which of two rows stands first, `plus` adds two rows that stand at one place.
 use Rattle.std.specs.Prelude.{List, [], ◌∷◌}
 use Rattle.std.specs.declared.cmp.Ordering.{Ordering}
 use Rattle.std.specs.declared.cmp.Ordering.TheVariants.{Less, Equal, Greater}

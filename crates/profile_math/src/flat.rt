@@ -1,9 +1,10 @@
 ghost use Rattle.std.specs.Prelude.{◌≡◌, ◌^◌, ◌<◌, ◌==◌, length, sum_by, position, All, OnOk, OnErr, IsOk};
 ghost use Rattle.profile_math.specs.Closing.{closed, closed_rows};
 ghost use Rattle.trace_base.specs.Flat.{stands};
-ghost use Rattle.profile_math.specs.Sum.{sum_of, row_place, row_plus, row_count, RisesByFunction, RowFits, ProfileFits};
+ghost use Rattle.profile_math.specs.Sum.{sum_of, row_place, row_plus, row_count, RisesByFunction, RowFits};
+ghost use Rattle.profile_math.specs.Sum.{ProfileFits};
 
-use crate::merging::{add_rows, Summand};
+use crate::merging::{Summand, add_rows};
 use crate::sums::Sums;
 use std::alloc::Global;
 use std::cmp::Ordering;
@@ -52,8 +53,9 @@ fn holds_anything(row: &Row) -> bool
     row.calls > 0 || row.incl > 0
 }
 
-/// Puts a call over the rows: its row's calls and exclusive time are added to those of its function, and its inclusive
-/// time takes the place of theirs. A new row that would hold nothing isn't added. On `Memory` the rows are as before.
+/// Puts a call over the rows: its row's calls and exclusive time are added to those of its function, and its
+/// inclusive time takes the place of theirs. A new row that would hold nothing isn't added. On `Memory` the
+/// rows are as before.
 fn close_rows(rows: &mut Seq<Row>, call: Row) -> Result<(), Memory>
     requires ordered { RisesByFunction rows.old }
     requires fits { All RowFits (closed_rows rows.old call) }

@@ -7,15 +7,15 @@ pub fn flat_of_streams()
     ensures { FlatOfStreams }
 {}
 
-/// The flat profile of two intervals of some streams, one after the other, is the sum of theirs: each call counts in
-/// the one in which it begins.
+/// The flat profile of two intervals of some streams, one after the other, is the sum of theirs: each call
+/// counts in the one in which it begins.
 #[tactic(auto, using(crate::proofs::FlatLaws::laws))]
 pub fn flat_of_intervals()
     ensures { FlatOfIntervals }
 {}
 
-/// The flat profile of a call, from just before it is entered to where it is left, is the closing of the profile of what
-/// it encloses, over any interval: the call counts where it begins within the interval.
+/// The flat profile of a call, from just before it is entered to where it is left, is the closing of the
+/// profile of what it encloses, over any interval: the call counts where it begins within the interval.
 #[tactic(auto, using(crate::proofs::FlatCalls::flat_call))]
 pub fn flat_of_call()
     ensures { FlatOfCall }

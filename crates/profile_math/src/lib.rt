@@ -1,10 +1,13 @@
 //! Sums of profiles: two profiles added, and the profile of a call over the profile of what it encloses.
 #![tactic(auto)]
 
+mod examples;
 mod flat;
 mod laws;
 mod merging;
 mod sums;
+#[cfg(test)]
+mod tests;
 
 pub use laws::{flat_in_order, flat_of_call, flat_of_intervals, flat_of_streams};
 pub use sums::Sums;

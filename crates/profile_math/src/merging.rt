@@ -1,10 +1,12 @@
-ghost use Rattle.std.specs.Prelude.{◌≡◌, ◌+◌, ◌≤◌, ◌++◌, length, take, drop, replicate, All, OnOk, OnErr, IsOk};
+ghost use Rattle.std.specs.Prelude.{◌≡◌, ◌+◌, ◌≤◌, ◌++◌, length, take, drop, replicate, All, OnOk, OnErr};
+ghost use Rattle.std.specs.Prelude.{IsOk};
 ghost use Rattle.profile_math.specs.Merging.{merged, turn_of};
 
 use std::cmp::Ordering;
 use trace_base::{Memory, Seq};
 
-/// A row of a profile, which stands at a place among the rows, and to which a row of the same place can be added.
+/// A row of a profile, which stands at a place among the rows, and to which a row of the same place can be
+/// added.
 pub trait Summand: Copy {
     ghost use Rattle.std.specs.declared.cmp.Ordering.{Ordering};
 
@@ -24,7 +26,8 @@ pub trait Summand: Copy {
         ensures { result ≡ plus self other };
 }
 
-/// Whether the row at an index stands before a row, at its place or behind it. Behind the last row nothing stands.
+/// Whether the row at an index stands before a row, at its place or behind it. Behind the last row nothing
+/// stands.
 fn turn<R: Summand>(rows: &[R], at: usize, row: R) -> Ordering
     requires { at ≤ length rows.now }
     ensures { result ≡ turn_of R.place (drop at rows.now) row }
@@ -60,8 +63,8 @@ fn count_missing<R: Summand>(rows: &[R], others: &[R]) -> usize
     missing
 }
 
-/// Merges the rows from an index on with others, into the list from its front. There is room for just the merged
-/// rows.
+/// Merges the rows from an index on with others, into the list from its front. There is room for just the
+/// merged rows.
 fn merge_from<R: Summand>(rows: &mut Seq<R>, from: usize, others: &[R])
     requires start { from ≤ length rows.old }
     requires room { length rows.old ≡ length (merged R.place R.plus (drop from rows.old) others.now) }
@@ -133,7 +136,8 @@ fn shift<R: Summand>(rows: &mut Seq<R>, len: usize, by: usize)
     }
 }
 
-/// Makes room for so many rows in front of the list, which are copies of some rows. On `Memory` the list is as before.
+/// Makes room for so many rows in front of the list, which are copies of some rows. On `Memory` the list is
+/// as before.
 fn make_room<R: Summand>(rows: &mut Seq<R>, more: usize, filler: R) -> Result<(), Memory>
     ensures room { OnOk result (length rows.new ≡ more + length rows.old) }
     ensures moved { OnOk result (drop more rows.new ≡ rows.old) }
@@ -149,8 +153,8 @@ fn make_room<R: Summand>(rows: &mut Seq<R>, more: usize, filler: R) -> Result<()
     Ok(())
 }
 
-/// Merges the rows of another list into the list. Where each of them stands at the place of a row of the list this
-/// takes no memory. On `Memory` the list is as before.
+/// Merges the rows of another list into the list. Where each of them stands at the place of a row of the list
+/// this takes no memory. On `Memory` the list is as before.
 pub fn add_rows<R: Summand>(rows: &mut Seq<R>, others: &[R]) -> Result<(), Memory>
     requires { All R.fits (merged R.place R.plus rows.old others.now) }
     ensures ok { OnOk result (rows.new ≡ merged R.place R.plus rows.old others.now) }

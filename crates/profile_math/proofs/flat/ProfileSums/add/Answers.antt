@@ -7,8 +7,10 @@ use Rattle.profile_math.proofs.RowSums.{sum_rows, sum_is, sum-rises, sum-bare}
 use Rattle.profile_math.proofs.flat.ProfileSums.add.Goals as goal
 
 pub add_rows-requires : goal.add_rows-requires
-add_rows-requires c = subst (All RowFits) (sym (ap (merged row_place row_plus c.args.self.now.rows) c.as_slice.ensures
-    ∙ sum_rows c.args.self.now c.args.other.now c.requires.ordered c.requires.other_ordered)) c.requires.fits.1
+add_rows-requires c = subst (All RowFits)
+    (sym (ap (merged row_place row_plus c.args.self.now.rows) c.as_slice.ensures
+    ∙ sum_rows c.args.self.now c.args.other.now c.requires.ordered c.requires.other_ordered))
+    c.requires.fits.1
 
 pub returns-in_err-add_rows-clause-in_place : goal.returns-in_err-add_rows-clause-in_place
 returns-in_err-add_rows-clause-in_place c = λ e. absurd (false≢true (c.in_err-add_rows.ensures.in_place

@@ -12,7 +12,8 @@ time_in_calls-requires c =
     let small : p.bare + sum_by (λ (r : Row). r.excl) p.rows < 2 ^ 128 =
     call-incl p.rows (call_row c.args.func c.args.begun p)
     (subst (All RowFits) (closed-rows c.args.func c.args.begun p) c.requires.fits.1) in
-    subst (λ (us : List Row). sum_by (λ (r : Row). r.excl) us < 2 ^ 128) (sym c.as_slice.ensures) (search rules)
+    subst (λ (us : List Row). sum_by (λ (r : Row). r.excl) us < 2 ^ 128) (sym c.as_slice.ensures)
+    (search rules)
 
 pub overflow_add-call : goal.overflow_add-call
 overflow_add-call c =
@@ -36,7 +37,8 @@ pub returns-in_err-close_rows-clause-in_place : goal.returns-in_err-close_rows-c
 returns-in_err-close_rows-clause-in_place c = λ e.
     let p = c.args.self.now in
     absurd (false≢true (c.in_err-close_rows.ensures.in_place
-    (ap length (ap (closed_rows p.rows) (call_is p c.args.func c.args.begun c.from.result c.time_in_calls.result
+    (ap length (ap (closed_rows p.rows) (call_is p c.args.func c.args.begun c.from.result
+    c.time_in_calls.result
     (search rules) (c.time_in_calls.ensures
     ∙ ap (λ (us : List Row). sum_by (λ (r : Row). r.excl) us) c.as_slice.ensures))
     ∙ sym (closed-rows c.args.func c.args.begun p)) ∙ e)))
