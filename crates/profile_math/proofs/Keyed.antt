@@ -372,7 +372,7 @@ at-climbs {K} {X} cmp key tot plus t k (x ∷ xs) h =
           ∙ ap (whole tot k) (sym (at-no cmp key k x xs e))
     ]
 
-abbrev by_key : {K X : Type 0} → (K → K → Ordering) → (X → K) → X → X → Ordering
+abbrev pub by_key : {K X : Type 0} → (K → K → Ordering) → (X → K) → X → X → Ordering
 by_key cmp key x y = cmp (key x) (key y)
 
 -- what stands before the items of both lists stands before the merged ones
@@ -404,7 +404,7 @@ above_same : {K X : Type 0} (cmp : K → K → Ordering) (key : X → K) (j k : 
     → AllByRecursion (λ y. cmp j (key y) ≡ Less) xs → AllByRecursion (λ y. cmp k (key y) ≡ Less) xs
 above_same cmp key j k xs e h = subst (λ l. AllByRecursion (λ y. cmp l (key y) ≡ Less) xs) e h
 
-picked : {A : Type 0} (o p : Ordering) (a b c : A) → o ≡ p → pick o a b c ≡ pick p a b c
+pub picked : {A : Type 0} (o p : Ordering) (a b c : A) → o ≡ p → pick o a b c ≡ pick p a b c
 picked o p a b c e = ap (λ q. pick q a b c) e
 
 pub merged-climbs : {K X : Type 0} (cmp : K → K → Ordering) (key : X → K) (tot : K → List X → X)

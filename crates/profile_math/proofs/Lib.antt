@@ -4,6 +4,7 @@ pub mod FlatLaws
 pub mod FlatRows
 pub mod Keyed
 pub mod MergeSteps
+pub mod PathMerging
 pub mod RowClosings
 pub mod RowSums
 pub mod Shares
