@@ -4,7 +4,9 @@ pub mod FlatLaws
 pub mod FlatRows
 pub mod Keyed
 pub mod MergeSteps
+pub mod PathClosings
 pub mod PathMerging
+pub mod PathSums
 pub mod RowClosings
 pub mod RowSums
 pub mod Shares

@@ -108,7 +108,7 @@ place-is a b p r s f g =
           ]
     ]
 
-length-after : (p : List ℕ) (r : PathRow) → 1 ≤ r.depth → r.depth ≤ length p + 1 → length (path_after p r) ≡ r.depth
+pub length-after : (p : List ℕ) (r : PathRow) → 1 ≤ r.depth → r.depth ≤ length p + 1 → length (path_after p r) ≡ r.depth
 length-after p r l h = omega (arith, length-append (take (r.depth - 1) p) (r.func ∷ []), length-take (r.depth - 1) p)
 
 -- a row that comes behind another, no deeper one, may follow it
@@ -180,7 +180,7 @@ from-there b p (y ∷ ys) h g =
     (ap (λ (q : List ℕ). numbers q y ∷ numbers_after q ys) same,
     (g.deep, g.within, subst (λ (q : List ℕ). Deep q ys) (sym same) (chain-deep (path_after b y) ys h.1)))
 
-first-follows : (a : List ℕ) (xs : List PathRow) → Chain a xs → MayFollow a a xs
+pub first-follows : (a : List ℕ) (xs : List PathRow) → Chain a xs → MayFollow a a xs
 first-follows a [] h = tt
 first-follows a (x ∷ xs) h = h.0
 

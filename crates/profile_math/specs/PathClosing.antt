@@ -1,6 +1,7 @@
 -- The call-tree profile of a call whose content has this profile: its function stands in front of each path.
 use Rattle.std.specs.Prelude.{ℕ, ◌+◌, Bool, true, ◌||◌, not, if◌then◌else◌, List, [], ◌∷◌, map, sum_by, nat_lt, length, ◌==◌}
 use Rattle.trace_base.specs.declared.profile.PathProfile.{PathProfile}
+use Rattle.trace_base.specs.declared.profile.PathRow.{PathRow}
 use Rattle.profile_math.specs.PathSum.{PathNumbers, numbers_of, row_of_path}
 
 -- what the call's own path has: it is open all the time, and innermost in the bare time
@@ -27,3 +28,7 @@ closed_paths f begun p = record {
   rows = if call_stands begun p
       then map row_of_path (call_numbers f begun p ∷ map (under_call f) (numbers_of p.rows)) else [];
 }
+
+-- the row one call deeper
+abbrev pub one_deeper : PathRow → PathRow
+one_deeper r = record r { depth = r.depth + 1 }

@@ -5,6 +5,7 @@ mod examples;
 mod flat;
 mod laws;
 mod merging;
+mod paths;
 mod sums;
 #[cfg(test)]
 mod tests;
