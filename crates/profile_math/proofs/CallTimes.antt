@@ -1,24 +1,22 @@
 -- Times and calls of the stream of one call, by those of the stream that it encloses.
 use Rattle.std.proofs.Common.{◌≡◌, ◌≢◌, ℕ, ◌+◌, ◌-◌, ◌<◌, ◌≤◌, ◌==◌, zero, suc, Bool, true, false, cond, ◌&&◌}
-use Rattle.std.proofs.Common.{◌||◌, List}
-use Rattle.std.proofs.Common.{[], ◌∷◌, ◌++◌, length, take, get_or, map, filter, fold, sum_by, count_by, min}
+use Rattle.std.proofs.Common.{List}
+use Rattle.std.proofs.Common.{[], ◌∷◌, ◌++◌, length, take, get_or, map, fold, sum_by, min}
 use Rattle.std.proofs.Common.{max, refl, ap}
-use Rattle.std.proofs.Common.{nat_le, nat_lt, sym, subst, ◌∙◌, inl, inr, arith, zero-add, add-zero, add-one}
-use Rattle.std.proofs.Common.{slice_get, Some, length-append, append-nil}
-use Rattle.std.specs.List.{AllByRecursion, range_with_len}
-use Rattle.std.proofs.lemmas.Bool.{cases_lt}
+use Rattle.std.proofs.Common.{sym, subst, ◌∙◌, arith, zero-add, add-zero, add-one}
+use Rattle.std.proofs.Common.{Some, length-append}
+use Rattle.std.specs.List.{range_with_len}
 use Rattle.std.proofs.lemmas.List.{map-append, take-append-le, get_or_append_left, get_or_at, length-map}
-use Rattle.std.proofs.lemmas.List.{take_all}
 use Rattle.std.proofs.lemmas.List.Sums.{sum_by-cons, sum_by-append, fold_more}
 use Rattle.std.proofs.lemmas.Option.{slice_get-get_or}
 use Rattle.trace_base.proofs.Ranges.{range_with_len-more}
 use Rattle.trace_base.specs.Flat.{clip, enters_in, time_with, calls_in, is_within}
-use Rattle.trace_base.specs.Stream.{Piece, piece, pieces, moments, time_of, stack_step, stack_after, IsLegal}
+use Rattle.trace_base.specs.Stream.{piece, pieces, moments, time_of, stack_step, stack_after, IsLegal}
 use Rattle.trace_base.specs.declared.stream.Event.{Event}
 use Rattle.trace_base.specs.declared.stream.Event.TheVariants.{Enter, Leave}
 use Rattle.trace_base.specs.declared.stream.TrackStream.{TrackStream}
 use Rattle.profile_math.specs.Laws.{call_of}
-use Rattle.profile_math.proofs.Times.{sum_by-filter, sum_by-same}
+use Rattle.profile_math.proofs.Times.{sum_by-filter}
 
 -- what the i-th piece has of the interval, where the call stack has the property
 part : (List ℕ → Bool) → ℕ → ℕ → TrackStream → ℕ → ℕ

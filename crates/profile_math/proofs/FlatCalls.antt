@@ -2,16 +2,15 @@
 use Rattle.std.proofs.Common.{◌≡◌, ◌≢◌, ℕ, ◌+◌, ◌<◌, ◌≤◌, ◌==◌, zero, suc, Bool, true, false, cond, ◌&&◌}
 use Rattle.std.proofs.Common.{◌||◌, List}
 use Rattle.std.proofs.Common.{[], ◌∷◌, ◌++◌, length, take, filter, sum_by, nat_lt, refl, ap, sym, subst, ◌∙◌}
-use Rattle.std.proofs.Common.{◌⊎◌, inl, inr}
+use Rattle.std.proofs.Common.{inl, inr}
 use Rattle.std.proofs.Common.{arith, zero-add, add-zero, append-nil, eq-eqb}
 use Rattle.std.specs.List.{AllByRecursion, list_any}
 use Rattle.std.specs.Ordering.{nat_cmp, is_eq}
-use Rattle.std.specs.declared.cmp.Ordering.TheVariants.{Less, Equal, Greater}
+use Rattle.std.specs.declared.cmp.Ordering.TheVariants.{Less}
 use Rattle.std.specs.Cmp.{unsigned_ties, nat_cmp_is}
 use Rattle.std.proofs.lemmas.Bool.{cases_Bool, cases_eq, cases_lt, cond-true, cond-false, lt-ltb, le-ltb}
 use Rattle.std.proofs.lemmas.Bool.{ltb-true}
-use Rattle.std.proofs.lemmas.Bool.{ne_eqb, eqb-true, true≢false, cond_both}
-use Rattle.std.proofs.lemmas.List.Elements.{filter-append}
+use Rattle.std.proofs.lemmas.Bool.{ne_eqb, eqb-true}
 use Rattle.std.proofs.lemmas.List.Sums.{sum_by-append}
 use Rattle.trace_base.proofs.Order.{all_mapped}
 use Rattle.trace_base.specs.Flat.{stands, is_bare, is_open_in, is_innermost_in, is_within, time_with}
@@ -30,7 +29,7 @@ use Rattle.profile_math.proofs.FlatRows.{standing, kept, standing-zero, standing
 use Rattle.profile_math.proofs.FlatRows.{standing-climbs}
 use Rattle.profile_math.proofs.FlatRows.{at-any, at-append, IsWithin, stands-from, stands-into, stands-not}
 use Rattle.profile_math.proofs.FlatRows.{no-stands}
-use Rattle.profile_math.proofs.FlatRows.{empty-row, kept-yes, kept-no, no_row}
+use Rattle.profile_math.proofs.FlatRows.{empty-row, kept-yes, kept-no}
 use Rattle.profile_math.proofs.Keyed.{at, Climbs, one_list, climbs-filter, climbs-append, all_passed}
 use Rattle.profile_math.proofs.Keyed.{filter_filter_same, filter_filter_none}
 use Rattle.profile_math.proofs.RowSums.{func_of, rows_for-at, row_totals}

@@ -1,5 +1,5 @@
 -- The flat profile of several streams, and of two intervals one after the other.
-use Rattle.std.proofs.Common.{◌≡◌, ℕ, ◌+◌, ◌<◌, ◌≤◌, Bool, false, List, [], ◌∷◌, ◌++◌, sum_by, refl, ap, sym}
+use Rattle.std.proofs.Common.{◌≡◌, ℕ, ◌+◌, ◌<◌, ◌≤◌, false, List, ◌++◌, sum_by, refl, ap, sym}
 use Rattle.std.proofs.Common.{◌∙◌, arith}
 use Rattle.std.proofs.lemmas.List.Sums.{sum_by-append}
 use Rattle.trace_base.specs.Flat.{stands, is_bare, is_open_in, is_innermost_in, time_with, calls_in, row_of}

@@ -1,6 +1,6 @@
 -- The rows of flat profiles: what there is for each function, and when the rows of one are the sums of two
 -- others'.
-use Rattle.std.proofs.Common.{◌≡◌, ◌≢◌, ℕ, ◌+◌, ◌<◌, ◌≤◌, ◌==◌, zero, suc, Bool, true, false, cond, ◌||◌}
+use Rattle.std.proofs.Common.{◌≡◌, ◌≢◌, ℕ, ◌+◌, ◌<◌, ◌≤◌, zero, suc, Bool, true, false, ◌||◌}
 use Rattle.std.proofs.Common.{List, [], ◌∷◌}
 use Rattle.std.proofs.Common.{◌++◌, map, filter, nat_lt, refl, ap, sym, subst, ◌∙◌, ◌⊎◌, inl, inr, arith}
 use Rattle.std.proofs.Common.{zero-add}
@@ -8,8 +8,7 @@ use Rattle.std.proofs.Common.{add-zero, add-one, append-nil}
 use Rattle.std.specs.Cmp.{nat_cmp_is}
 use Rattle.std.specs.List.{AllByRecursion, range_with_len}
 use Rattle.std.specs.Ordering.{nat_cmp, is_eq}
-use Rattle.std.specs.declared.cmp.Ordering.{Ordering}
-use Rattle.std.specs.declared.cmp.Ordering.TheVariants.{Less, Equal, Greater}
+use Rattle.std.specs.declared.cmp.Ordering.TheVariants.{Less}
 use Rattle.std.specs.Cmp.{unsigned_ties}
 use Rattle.std.proofs.lemmas.Bool.{cases_Bool, cases_eq, cases_lt, cond-true, cond-false, lt-ltb, le-ltb}
 use Rattle.std.proofs.lemmas.Bool.{ltb-true}
@@ -116,7 +115,8 @@ climbing row own (suc n) =
     let before = climbing row own n in
     let last : (row (n + 1)).func ≡ n + 1 = own (n + 1) in (
       subst (Climbs nat_cmp func_of) (sym (standing-suc row n))
-          (climbs-append nat_cmp func_of (standing row n) (kept (row (n + 1))) before.0 (climbs_kept (row (n + 1)))
+          (climbs-append nat_cmp func_of (standing row n) (kept (row (n + 1))) before.0
+          (climbs_kept (row (n + 1)))
           (all_mapped (λ (r : Row). r.func ≤ n) (λ r. AllByRecursion (λ s. nat_cmp r.func s.func ≡ Less)
           (kept (row (n + 1))))
           (λ r l. all_kept (λ s. nat_cmp r.func s.func ≡ Less) (row (n + 1))

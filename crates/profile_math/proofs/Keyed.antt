@@ -1,9 +1,9 @@
 -- Items in the order of their keys: at each key those that have it, and what they are together. A list in
 -- order is fixed by what it has at each key; two lists merged have at each key what both have there.
-use Rattle.std.proofs.Common.{◌≡◌, ℕ, Bool, true, false, cond, not, ◌&&◌, List, [], ◌∷◌, ◌++◌, map, filter}
+use Rattle.std.proofs.Common.{◌≡◌, Bool, true, false, cond, not, ◌&&◌, List, [], ◌∷◌, ◌++◌, map, filter}
 use Rattle.std.proofs.Common.{refl, ap}
-use Rattle.std.proofs.Common.{sym, subst, ◌∙◌, ◌⊎◌, inl, inr, append-nil, append_assoc}
-use Rattle.std.specs.Cmp.{IsTotalOrder, IsStrictWeakOrder}
+use Rattle.std.proofs.Common.{sym, subst, ◌∙◌, ◌⊎◌, inl, inr, append-nil}
+use Rattle.std.specs.Cmp.{IsTotalOrder}
 use Rattle.std.specs.List.{AllByRecursion}
 use Rattle.std.specs.List.Sorted.{IsStrictlySortedBy, ties}
 use Rattle.std.specs.Ordering.{is_lt, is_eq, ordering_reverse}
@@ -11,12 +11,12 @@ use Rattle.std.specs.declared.cmp.Ordering.{Ordering}
 use Rattle.std.specs.declared.cmp.Ordering.TheVariants.{Less, Equal, Greater}
 use Rattle.std.proofs.lemmas.Bool.{cases_Bool, cond-true, cond-false, cond_both, false_from_ne_true}
 use Rattle.std.proofs.lemmas.Bool.{true≢false}
-use Rattle.std.proofs.lemmas.Cmp.{tied_itself, tied_back, alike_right}
+use Rattle.std.proofs.lemmas.Cmp.{tied_back, alike_right}
 use Rattle.std.proofs.lemmas.List.Elements.{filter_agree, filter-append}
 use Rattle.std.proofs.lemmas.List.Sorted.{ranks_by}
-use Rattle.trace_base.proofs.Order.{Rises, all_mapped, all_filter, filter_none, filter_every, one_in_order}
+use Rattle.trace_base.proofs.Order.{Rises, all_mapped, all_filter, filter_none, one_in_order}
 use Rattle.profile_math.specs.InOrder.{put_in_order, in_order}
-use Rattle.profile_math.specs.Merging.{pick, merge_first, merged}
+use Rattle.profile_math.specs.Merging.{pick, merged}
 
 -- the items with the key
 abbrev pub at : {K X : Type 0} → (K → K → Ordering) → (X → K) → K → List X → List X
@@ -447,7 +447,8 @@ merged-climbs {K} {X} cmp key tot plus t (x ∷ xs) ys h g =
                     (plus x y ∷ merged (by_key cmp key) plus xs ws)
                     (y ∷ merged (by_key cmp key) plus (x ∷ xs) ws) e)) (
                       merged-above cmp key tot plus t (key y) (x ∷ xs) ws
-                          (all_above cmp t.order key (key y) x xs (turned_back cmp t.order (key x) (key y) e) h)
+                          (all_above cmp t.order key (key y) x xs (turned_back cmp t.order (key x) (key y) e)
+                          h)
                           l.0,
                       go ws l.1 rest,
                     )

@@ -1,7 +1,7 @@
 -- One step of merging two lists of rows, by which of the first rows stands first.
-use Rattle.std.proofs.Common.{◌≡◌, ℕ, ◌+◌, ◌-◌, ◌<◌, ◌≤◌, ◌≢◌, zero, suc, Bool, List, [], ◌∷◌, ◌++◌, length}
+use Rattle.std.proofs.Common.{◌≡◌, ℕ, ◌+◌, ◌<◌, ◌≤◌, ◌≢◌, suc, List, [], ◌∷◌, ◌++◌, length}
 use Rattle.std.proofs.Common.{take, drop}
-use Rattle.std.proofs.Common.{get_or, set, refl, ap, sym, subst, ◌∙◌, inl, inr, arith, add-one, drop-cons}
+use Rattle.std.proofs.Common.{get_or, set, refl, ap, sym, subst, ◌∙◌, arith}
 use Rattle.std.proofs.Common.{All}
 use Rattle.std.proofs.Common.{length-append, length-drop, length-set, append_assoc, add-zero}
 use Rattle.std.proofs.lemmas.List.{drop_more, drop_all, drop-drop, get_or-drop, length-take-le}
@@ -102,7 +102,8 @@ step-less {R} place plus zs ys at next y d h e t =
       ap (merged place plus (drop at zs)) front ∙ step.1
           ∙ ap (λ (w : R). w ∷ merged place plus (drop 1 (drop at zs)) (y ∷ drop (next + 1) ys))
           (get_or-drop-first zs at d)
-          ∙ ap (λ (ws : List R). get_or zs at d ∷ merged place plus ws (y ∷ drop (next + 1) ys)) (drop-drop 1 at zs)
+          ∙ ap (λ (ws : List R). get_or zs at d ∷ merged place plus ws (y ∷ drop (next + 1) ys))
+          (drop-drop 1 at zs)
           ∙ ap (λ (ws : List R). get_or zs at d ∷ merged place plus (drop (at + 1) zs) ws) (sym front),
     )
   where
@@ -318,7 +319,8 @@ writes-less {R} place plus whole zs ys ws vs at next spot x y m ew ev h e t k =
       step.0,
       (merges-room place plus whole zs ys at next spot (at + 1) next x m (omega (arith, step.0))
           own).1,
-      λ zs' at' next' ez ea en. rw (ez, ea, en) (merges-step place plus whole zs ys at next spot (at + 1) next x
+      λ zs' at' next' ez ea en. rw (ez, ea, en) (merges-step place plus whole zs ys at next spot (at + 1) next
+          x
           m
           (omega (arith, step.0)) m.next_in own),
     )
@@ -340,7 +342,8 @@ writes-equal {R} P place plus whole zs ys ws vs at next spot x y all m ew ev h e
     step.1 ∙ ap (λ (w : R). plus w y ∷ merged place plus (drop (at + 1) zs) (drop (next + 1) ys))
     (sym (k ∙ ap (λ (us : List R). get_or us at x) ev)) in (
       step.0,
-      (merges-room place plus whole zs ys at next spot (at + 1) (next + 1) (plus x y) m (omega (arith, step.0))
+      (merges-room place plus whole zs ys at next spot (at + 1) (next + 1) (plus x y) m
+          (omega (arith, step.0))
           own).1,
       merges-fits P place plus whole zs ys at next spot (plus x y)
           (merged place plus (drop (at + 1) zs) (drop (next + 1) ys)) m all own,
@@ -360,7 +363,8 @@ writes-greater {R} place plus whole zs ys ws at next spot y m ew h e t =
     ∙ sym t in
     let own = step-greater place plus zs ys at next y h e turn in (
       (merges-room place plus whole zs ys at next spot at (next + 1) y m m.at_in own).1,
-      λ zs' at' next' ez ea en. rw (ez, ea, en) (merges-step place plus whole zs ys at next spot at (next + 1) y
+      λ zs' at' next' ez ea en. rw (ez, ea, en) (merges-step place plus whole zs ys at next spot at (next + 1)
+          y
           m m.at_in
           (omega arith) own),
     )

@@ -1,6 +1,7 @@
 -- Rows of call-tree profiles merged by their depths and functions are their paths merged in order.
-use Rattle.std.proofs.Common.{◌≡◌, ℕ, ◌+◌, ◌-◌, ◌<◌, ◌≤◌, zero, suc, Bool, List, [], ◌∷◌, ◌++◌, length, take, map, refl, ap}
-use Rattle.std.proofs.Common.{sym, subst, ◌∙◌, inl, inr, arith, length-append, add-one}
+use Rattle.std.proofs.Common.{◌≡◌, ℕ, ◌+◌, ◌-◌, ◌<◌, ◌≤◌, zero, suc, List, [], ◌∷◌, ◌++◌, length, take, refl}
+use Rattle.std.proofs.Common.{ap}
+use Rattle.std.proofs.Common.{sym, subst, ◌∙◌, inl, inr, arith, length-append}
 use Rattle.std.specs.Cmp.Lexicographic.{slice_cmp}
 use Rattle.std.specs.FinMap.{nat_cmp-IsAntisymmetric, slice_cmp-IsAntisymmetric}
 use Rattle.std.specs.Ordering.{nat_cmp, ordering_then}
@@ -23,8 +24,8 @@ path_of n = n.path
 abbrev pub numbers_plus : PathNumbers → PathNumbers → PathNumbers
 numbers_plus m n = record m { calls = m.calls + n.calls; incl = m.incl + n.incl; excl = m.excl + n.excl }
 
--- The row may follow the path p where a row with the path a was: both have as many functions of one path as its depth
--- leaves, and its path comes behind p.
+-- The row may follow the path p where a row with the path a was: both have as many functions of one path as
+-- its depth leaves, and its path comes behind p.
 pub record Follows (a p : List ℕ) (r : PathRow) : Type 0 where
   pub deep : 1 ≤ r.depth
   pub within : r.depth ≤ length p + 1
@@ -48,7 +49,8 @@ after-same a p r f = ap (λ q. q ++ r.func ∷ []) f.shared
 -- where it goes on from a front that two paths share
 lex-same : (q s t : List ℕ) → lex (q ++ s) (q ++ t) ≡ lex s t
 lex-same [] s t = refl
-lex-same (x ∷ q) s t = ap (λ o. ordering_then o (lex (q ++ s) (q ++ t))) (tied_itself nat_cmp_total x) ∙ lex-same q s t
+lex-same (x ∷ q) s t = ap (λ o. ordering_then o (lex (q ++ s) (q ++ t))) (tied_itself nat_cmp_total x) ∙
+    lex-same q s t
 
 then-equal : (o : Ordering) → ordering_then o Equal ≡ o
 then-equal Less = refl
@@ -98,7 +100,8 @@ place-is a b p r s f g =
             | inl e ↦
                 (let same : s.depth ≡ r.depth = ranked s.depth r.depth Equal (sym e) in
                 ap (λ q. lex q (path_after b s)) (sym (after-same a p r f))
-                ∙ ap (lex (path_after p r)) (sym (after-same b p s g) ∙ ap (λ n. take (n - 1) p ++ s.func ∷ []) same)
+                ∙ ap (lex (path_after p r))
+                (sym (after-same b p s g) ∙ ap (λ n. take (n - 1) p ++ s.func ∷ []) same)
                 ∙ lex-same (take (r.depth - 1) p) (r.func ∷ []) (s.func ∷ [])
                 ∙ then-equal (nat_cmp r.func s.func)
                 ∙ sym (ap (λ o. ordering_then o (nat_cmp r.func s.func)) e))
@@ -108,8 +111,13 @@ place-is a b p r s f g =
           ]
     ]
 
-pub length-after : (p : List ℕ) (r : PathRow) → 1 ≤ r.depth → r.depth ≤ length p + 1 → length (path_after p r) ≡ r.depth
-length-after p r l h = omega (arith, length-append (take (r.depth - 1) p) (r.func ∷ []), length-take (r.depth - 1) p)
+pub length-after : (p : List ℕ) (r : PathRow) → 1 ≤ r.depth → r.depth ≤ length p + 1
+    → length (path_after p r) ≡ r.depth
+length-after p r l h = omega (
+  arith,
+  length-append (take (r.depth - 1) p) (r.func ∷ []),
+  length-take (r.depth - 1) p,
+)
 
 -- a row that comes behind another, no deeper one, may follow it
 then-follows : (a b p : List ℕ) (r s : PathRow) → Follows a p r → Follows b p s → s.depth ≤ r.depth
@@ -133,14 +141,16 @@ not_deeper r s e =
       | inr k ↦
           elim k [
             | inl h ↦ omega (arith, ranked s.depth r.depth Equal (sym h))
-            | inr h ↦ (let no : Greater ≡ Less = sym (ap (λ o. ordering_then o (nat_cmp r.func s.func)) h) ∙ e in cc)
+            | inr h ↦ (let no : Greater ≡ Less = sym (ap (λ o. ordering_then o (nat_cmp r.func s.func)) h) ∙ e
+                in cc)
           ]
     ]
 
 not_higher : (r s : PathRow) → path_row_place r s ≡ Greater → r.depth ≤ s.depth
 not_higher r s e =
     elim (ordering_cases (nat_cmp s.depth r.depth)) [
-      | inl h ↦ (let no : Less ≡ Greater = sym (ap (λ o. ordering_then o (nat_cmp r.func s.func)) h) ∙ e in cc)
+      | inl h ↦ (let no : Less ≡ Greater = sym (ap (λ o. ordering_then o (nat_cmp r.func s.func)) h) ∙ e
+          in cc)
       | inr k ↦
           elim k [
             | inl h ↦ omega (arith, ranked s.depth r.depth Equal (sym h))
@@ -167,7 +177,8 @@ abbrev N : List PathNumbers → List PathNumbers → List PathNumbers
 N xs ys = merged (by_key lex path_of) numbers_plus xs ys
 
 pub record Merges (a b p : List ℕ) (xs ys zs : List PathRow) : Type 0 where
-  pub same : numbers_after p zs ≡ merged (by_key lex path_of) numbers_plus (numbers_after a xs) (numbers_after b ys)
+  pub same : numbers_after p zs ≡ merged (by_key lex path_of) numbers_plus (numbers_after a xs)
+      (numbers_after b ys)
   pub deep : Deep p zs
 
 -- rows that may follow p have their paths from there too
@@ -176,15 +187,17 @@ from-there : (b p : List ℕ) (ys : List PathRow) → Chain b ys → MayFollow b
 unfolding numbers
 from-there b p [] h g = (refl, tt)
 from-there b p (y ∷ ys) h g =
-    let same = after-same b p y g in
-    (ap (λ (q : List ℕ). numbers q y ∷ numbers_after q ys) same,
-    (g.deep, g.within, subst (λ (q : List ℕ). Deep q ys) (sym same) (chain-deep (path_after b y) ys h.1)))
+    let same = after-same b p y g in (
+      ap (λ (q : List ℕ). numbers q y ∷ numbers_after q ys) same,
+      (g.deep, g.within, subst (λ (q : List ℕ). Deep q ys) (sym same) (chain-deep (path_after b y) ys h.1)),
+    )
 
 pub first-follows : (a : List ℕ) (xs : List PathRow) → Chain a xs → MayFollow a a xs
 first-follows a [] h = tt
 first-follows a (x ∷ xs) h = h.0
 
-numbers-cons : (p : List ℕ) (r : PathRow) (rs : List PathRow) → numbers_after p (r ∷ rs) ≡ numbers (path_after p r) r
+numbers-cons : (p : List ℕ) (r : PathRow) (rs : List PathRow) → numbers_after p (r ∷ rs) ≡ numbers
+    (path_after p r) r
     ∷ numbers_after (path_after p r) rs
 unfolding numbers
 numbers-cons p r rs = refl
@@ -197,18 +210,21 @@ pair-key : (p q : List ℕ) (r s : PathRow) → by_key lex path_of (numbers p r)
 unfolding numbers
 pair-key p q r s = refl
 
-plus-key : (p q : List ℕ) (r s : PathRow) → numbers_plus (numbers p r) (numbers q s) ≡ numbers p (path_row_plus r s)
+plus-key : (p q : List ℕ) (r s : PathRow) → numbers_plus (numbers p r) (numbers q s) ≡ numbers p
+    (path_row_plus r s)
 unfolding numbers
 plus-key p q r s = refl
 
-merged-cons : {R : Type 0} (place : R → R → Ordering) (plus : R → R → R) (x y : R) (xs ys : List R) (o : Ordering)
+merged-cons : {R : Type 0} (place : R → R → Ordering) (plus : R → R → R) (x y : R) (xs ys : List R)
+    (o : Ordering)
     → place x y ≡ o → merged place plus (x ∷ xs) (y ∷ ys) ≡ pick o (x ∷ merged place plus xs (y ∷ ys))
     (plus x y ∷ merged place plus xs ys) (y ∷ merged place plus (x ∷ xs) ys)
 unfolding merged
 merged-cons place plus x y xs ys o e = picked (place x y) o (x ∷ merged place plus xs (y ∷ ys))
     (plus x y ∷ merged place plus xs ys) (y ∷ merged place plus (x ∷ xs) ys) e
 
-merged-nil : {R : Type 0} (place : R → R → Ordering) (plus : R → R → R) (ys : List R) → merged place plus [] ys ≡ ys
+merged-nil : {R : Type 0} (place : R → R → Ordering) (plus : R → R → R) (ys : List R)
+    → merged place plus [] ys ≡ ys
 unfolding merged
 merged-nil place plus ys = refl
 
@@ -223,7 +239,8 @@ next : (a b p q : List ℕ) (xs ys : List PathRow) (z : PathRow) (zs : List Path
     → M xs ys ≡ z ∷ zs → N (numbers_after a xs) (numbers_after b ys) ≡ numbers q z ∷ ns
     → numbers_after q zs ≡ ns → Deep q zs → Merges a b p xs ys (M xs ys)
 next a b p q xs ys z zs ns e l m is same rest deep = record {
-  same = ap (numbers_after p) is ∙ numbers-at p q z zs e ∙ ap (λ (us : List PathNumbers). numbers q z ∷ us) rest
+  same = ap (numbers_after p) is ∙ numbers-at p q z zs e ∙ ap (λ (us : List PathNumbers). numbers q z ∷ us)
+      rest
       ∙ sym same;
   deep = subst (Deep p) (sym is) (l, m, subst (λ (s : List ℕ). Deep s zs) (sym e) deep);
 }
@@ -242,7 +259,8 @@ merged-numbers (x ∷ xs) ys a b p h g f k = go ys b p g f k
     (λ zs c q l m n. merged-numbers xs zs (path_after a x) c q h.1 l m n)
   where
     go : (zs : List PathRow) (c q : List ℕ) → Chain c zs → Follows a q x → MayFollow c q zs
-        → ((ws : List PathRow) (d r : List ℕ) → Chain d ws → MayFollow (path_after a x) r xs → MayFollow d r ws
+        → ((ws : List PathRow) (d r : List ℕ) → Chain d ws → MayFollow (path_after a x) r xs
+        → MayFollow d r ws
         → Merges (path_after a x) d r xs ws (M xs ws))
         → Merges a c q (x ∷ xs) zs (M (x ∷ xs) zs)
     go [] c q l m n rest =
@@ -260,7 +278,8 @@ merged-numbers (x ∷ xs) ys a b p h g f k = go ys b p g f k
         let py : List ℕ = path_after c y in
         let agree : by_key lex path_of (numbers px x) (numbers py y) ≡ path_row_place x y =
         pair-key px py x y ∙ place-is a c q x y m n in
-        let front : N (numbers_after a (x ∷ xs)) (numbers_after c (y ∷ ws)) ≡ N (numbers px x ∷ numbers_after px xs)
+        let front : N (numbers_after a (x ∷ xs)) (numbers_after c (y ∷ ws)) ≡ N
+        (numbers px x ∷ numbers_after px xs)
         (numbers py y ∷ numbers_after py ws) =
         ap (λ (us : List PathNumbers). N us (numbers_after c (y ∷ ws))) (numbers-cons a x xs)
         ∙ ap (N (numbers px x ∷ numbers_after px xs)) (numbers-cons c y ws) in
@@ -268,12 +287,15 @@ merged-numbers (x ∷ xs) ys a b p h g f k = go ys b p g f k
           | inl e ↦
               (let behind = rest (y ∷ ws) c px l (first-follows px xs h.1)
               (then-follows a c q x y m n (not_deeper x y e) (place-is a c q x y m n ∙ e)) in
-              next a c q px (x ∷ xs) (y ∷ ws) x (M xs (y ∷ ws)) (N (numbers_after px xs) (numbers_after c (y ∷ ws)))
+              next a c q px (x ∷ xs) (y ∷ ws) x (M xs (y ∷ ws))
+              (N (numbers_after px xs) (numbers_after c (y ∷ ws)))
               (after-same a q x m) m.deep m.within
               (merged-cons path_row_place path_row_plus x y xs ws Less e)
-              (front ∙ merged-cons (by_key lex path_of) numbers_plus (numbers px x) (numbers py y) (numbers_after px xs)
+              (front ∙ merged-cons (by_key lex path_of) numbers_plus (numbers px x) (numbers py y)
+              (numbers_after px xs)
               (numbers_after py ws) Less (agree ∙ e)
-              ∙ ap (λ (us : List PathNumbers). numbers px x ∷ N (numbers_after px xs) us) (sym (numbers-cons c y ws)))
+              ∙ ap (λ (us : List PathNumbers). numbers px x ∷ N (numbers_after px xs) us)
+              (sym (numbers-cons c y ws)))
               behind.same behind.deep)
           | inr o ↦
               elim o [

@@ -1,7 +1,6 @@
 -- The rows with a call over them, by whether its function has a row.
 use Rattle.std.proofs.Common.{◌≡◌, ℕ, ◌+◌, ◌<◌, ◌≤◌, ◌==◌, zero, suc, Bool, true, false, cond, ◌||◌}
-use Rattle.std.proofs.Common.{if◌then◌else◌}
-use Rattle.std.proofs.Common.{List, [], ◌∷◌, ◌++◌, Option, Some, None, All, length, get_or, set, map, filter}
+use Rattle.std.proofs.Common.{List, [], ◌∷◌, ◌++◌, Some, None, All, length, get_or, set, map, filter}
 use Rattle.std.proofs.Common.{sum_by}
 use Rattle.std.proofs.Common.{nat_lt, position, refl, ap, sym, subst, ◌∙◌, inl, inr, arith, zero-add, eq-eqb}
 use Rattle.std.specs.List.{AllByRecursion, list_any, position_or_len}
@@ -141,7 +140,8 @@ merged_between (x ∷ xs) h call none =
                 ∙ ap (λ (ys : List Row). x ∷ ys) (tail-above call.func x xs (omega arith) h.0) in (
                   ap (λ (o : Ordering). pick o (x ∷ merged row_place row_plus xs (call ∷ []))
                       (row_plus x call ∷ merged row_place row_plus xs []) (call ∷ x ∷ xs)) e
-                      ∙ sym (ap (λ (ys : List Row). ys ++ (call ∷ filter (λ s. nat_lt call.func s.func) (x ∷ xs)))
+                      ∙ sym (ap (λ (ys : List Row). ys
+                      ++ (call ∷ filter (λ s. nat_lt call.func s.func) (x ∷ xs)))
                       front
                       ∙ ap (λ (ys : List Row). call ∷ ys) back),
                   sym (ap (λ (ys : List Row). ys ++ ([] ++ filter (λ s. nat_lt call.func s.func) (x ∷ xs)))

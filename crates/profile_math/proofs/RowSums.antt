@@ -1,5 +1,5 @@
 -- Rows of flat profiles in the order of their functions.
-use Rattle.std.proofs.Common.{◌≡◌, ℕ, ◌+◌, ◌==◌, Bool, List, [], ◌∷◌, ◌++◌, map, filter, refl, ap, sym, ◌∙◌}
+use Rattle.std.proofs.Common.{◌≡◌, ℕ, ◌+◌, ◌==◌, List, [], ◌∷◌, ◌++◌, map, refl, ap, sym, ◌∙◌}
 use Rattle.std.proofs.Common.{zero-add}
 use Rattle.std.specs.Cmp.{unsigned_ties}
 use Rattle.std.specs.FinMap.{nat_cmp-IsAntisymmetric}
@@ -9,10 +9,9 @@ use Rattle.std.proofs.lemmas.List.Elements.{filter_agree}
 use Rattle.trace_base.specs.declared.profile.Row.{Row}
 use Rattle.trace_base.specs.declared.profile.Profile.{Profile}
 use Rattle.profile_math.specs.Merging.{merged}
-use Rattle.profile_math.specs.InOrder.{in_order}
 use Rattle.profile_math.specs.Sum.{row_total, rows_for, functions_of, by_function, row_place, row_plus}
 use Rattle.profile_math.specs.Sum.{sum_of, RisesByFunction}
-use Rattle.profile_math.proofs.Keyed.{at, whole, sums, Climbs, Totals, climbs-from, sorted-from, sums-is}
+use Rattle.profile_math.proofs.Keyed.{at, sums, Totals, climbs-from, sorted-from}
 use Rattle.profile_math.proofs.Keyed.{sums-climbs}
 use Rattle.profile_math.proofs.Keyed.{merged-is}
 

@@ -1,23 +1,21 @@
 -- All time of a stream is bare, or has one innermost function.
-use Rattle.std.proofs.Common.{◌≡◌, ℕ, ◌+◌, ◌-◌, ◌<◌, ◌≤◌, ◌==◌, zero, suc, Bool, true, false, cond, ◌||◌}
+use Rattle.std.proofs.Common.{◌≡◌, ℕ, ◌+◌, ◌-◌, ◌≤◌, ◌==◌, zero, suc, Bool, true, false, cond}
 use Rattle.std.proofs.Common.{List, [], ◌∷◌}
-use Rattle.std.proofs.Common.{◌++◌, length, take, get_or, map, filter, fold, sum_by, nat_le, nat_lt, refl, ap}
+use Rattle.std.proofs.Common.{◌++◌, length, take, get_or, map, filter, fold, sum_by, nat_le, refl, ap}
 use Rattle.std.proofs.Common.{sym, ◌∙◌}
-use Rattle.std.proofs.Common.{inl, inr, arith, zero-add, add-zero, slice_get, Option, Some, subst, eq-eqb}
+use Rattle.std.proofs.Common.{arith, add-zero, slice_get, Some, subst}
 use Rattle.std.proofs.Common.{add-one}
-use Rattle.std.specs.List.{AllByRecursion, list_any, range_with_len}
+use Rattle.std.specs.List.{AllByRecursion, range_with_len}
 use Rattle.std.specs.Option.{option_map_or}
-use Rattle.std.proofs.lemmas.Bool.{cases_Bool, cases_eq, cases_lt, ne_eqb, true≢false, cond-true, cond-false}
 use Rattle.std.proofs.lemmas.Bool.Decides.{nat_tests}
-use Rattle.std.proofs.lemmas.List.Sums.{sum_by-cons, sum_by-append}
+use Rattle.std.proofs.lemmas.List.Sums.{sum_by-cons}
 use Rattle.std.proofs.lemmas.Option.{slice_get-get_or}
-use Rattle.trace_base.proofs.Order.{all_mapped}
-use Rattle.trace_base.specs.Flat.{clip, time_with, function_of, is_bare, is_open_in, is_innermost_in}
-use Rattle.trace_base.specs.Stream.{Piece, piece, pieces, stack_step, stack_after, IsLegal}
+use Rattle.trace_base.specs.Flat.{clip, time_with, is_bare, is_innermost_in}
+use Rattle.trace_base.specs.Stream.{piece, pieces, stack_step, stack_after, IsLegal}
 use Rattle.trace_base.specs.declared.stream.Event.{Event}
 use Rattle.trace_base.specs.declared.stream.Event.TheVariants.{Enter, Leave}
 use Rattle.trace_base.specs.declared.stream.TrackStream.{TrackStream}
-use Rattle.profile_math.proofs.Times.{sum_by-filter, sum_by-plus, AllFunctions, stacks-all}
+use Rattle.profile_math.proofs.Times.{sum_by-filter, AllFunctions, stacks-all}
 
 -- a property that is one of two others, which exclude each other, wherever the stream's call stack is
 pub time-split : (has h1 h2 : List ℕ → Bool) (a b : ℕ) (s : TrackStream)

@@ -2,15 +2,15 @@
 -- that another implies.
 use Rattle.std.proofs.Common.{◌≡◌, ℕ, ◌+◌, ◌-◌, ◌<◌, ◌≤◌, ◌==◌, zero, suc, Bool, true, false, cond, ◌&&◌}
 use Rattle.std.proofs.Common.{◌||◌, List, [], ◌∷◌}
-use Rattle.std.proofs.Common.{◌++◌, length, take, map, filter, fold, sum_by, count_by, min, max, nat_lt}
+use Rattle.std.proofs.Common.{◌++◌, length, take, map, filter, fold, sum_by, count_by, max, nat_lt}
 use Rattle.std.proofs.Common.{nat_le, refl, ap}
-use Rattle.std.proofs.Common.{sym, subst, ◌∙◌, inl, inr, arith, zero-add}
+use Rattle.std.proofs.Common.{sym, ◌∙◌, inl, inr, arith}
 use Rattle.std.specs.List.{AllByRecursion, list_any, range_with_len}
 use Rattle.std.proofs.lemmas.Bool.{cases_Bool, cond-true, cond-false, true≢false, ne_eqb}
 use Rattle.std.proofs.lemmas.Bool.Decides.{nat_tests}
-use Rattle.std.proofs.lemmas.List.Sums.{sum_by-cons, sum_by-append, fold-append, sum_by-le-sum_by}
+use Rattle.std.proofs.lemmas.List.Sums.{sum_by-cons, fold-append, sum_by-le-sum_by}
 use Rattle.trace_base.proofs.Order.{all_mapped, filter_none}
-use Rattle.trace_base.specs.Flat.{clip, is_within, enters_in, time_with, calls_in, function_of}
+use Rattle.trace_base.specs.Flat.{clip, enters_in, time_with, calls_in, function_of}
 use Rattle.trace_base.specs.Flat.{greatest_function}
 use Rattle.trace_base.specs.Stream.{Piece, piece, pieces, stack_step, stack_after}
 use Rattle.trace_base.specs.Flat.{is_open_in, is_innermost_in}
@@ -185,7 +185,8 @@ pub greatest-append : (ss ts : List TrackStream) → (greatest_function ss ≤ g
     × (greatest_function ts ≤ greatest_function (ss ++ ts))
 unfolding greatest_function greatest_from
 greatest-append ss ts =
-    let split = fold-append (λ n (s : TrackStream). fold (λ m e. max m (function_of e)) n s.events) 0 ss ts in (
+    let split = fold-append (λ n (s : TrackStream). fold (λ m e. max m (function_of e)) n s.events) 0 ss ts
+    in (
       omega (arith, split, (streams-greatest ts (greatest_from 0 ss)).0),
       omega (arith, split, streams-monotone ts 0 (greatest_from 0 ss) (omega arith)),
     )

@@ -1,5 +1,6 @@
 -- The call-tree profile of a call whose content has this profile: its function stands in front of each path.
-use Rattle.std.specs.Prelude.{ℕ, ◌+◌, Bool, true, ◌||◌, not, if◌then◌else◌, List, [], ◌∷◌, map, sum_by, nat_lt, length, ◌==◌}
+use Rattle.std.specs.Prelude.{ℕ, ◌+◌, Bool, ◌||◌, not, if◌then◌else◌, [], ◌∷◌, map, sum_by, nat_lt, length}
+use Rattle.std.specs.Prelude.{◌==◌}
 use Rattle.trace_base.specs.declared.profile.PathProfile.{PathProfile}
 use Rattle.trace_base.specs.declared.profile.PathRow.{PathRow}
 use Rattle.profile_math.specs.PathSum.{PathNumbers, numbers_of, row_of_path}

@@ -1,5 +1,6 @@
 -- The sum of two call-tree profiles, by path.
-use Rattle.std.specs.Prelude.{◌≡◌, ℕ, ◌+◌, ◌-◌, ◌^◌, ◌<◌, List, [], ◌∷◌, ◌++◌, length, take, map, filter, sum_by, All}
+use Rattle.std.specs.Prelude.{◌≡◌, ℕ, ◌+◌, ◌-◌, ◌^◌, ◌<◌, List, [], ◌∷◌, ◌++◌, length, take, map, filter}
+use Rattle.std.specs.Prelude.{sum_by, All}
 use Rattle.std.specs.Prelude.{nat_eq, slice_index}
 use Rattle.std.specs.Cmp.Lexicographic.{pointwise, slice_cmp}
 use Rattle.std.specs.List.Sorted.{IsStrictlySortedBy}
@@ -16,8 +17,8 @@ pub record PathNumbers : Type 0 where
   pub incl : ℕ
   pub excl : ℕ
 
--- The path of a row, where `before` is that of the row before it: its function under as many functions of that path as
--- its depth leaves.
+-- The path of a row, where `before` is that of the row before it: its function under as many functions of
+-- that path as its depth leaves.
 abbrev pub path_after : List ℕ → PathRow → List ℕ
 path_after before row = take (row.depth - 1) before ++ row.func ∷ []
 
@@ -58,10 +59,11 @@ path_total path ns = record {
 abbrev pub numbers_for : List ℕ → List PathNumbers → List PathNumbers
 numbers_for path ns = filter (λ n. pointwise nat_eq n.path path) ns
 
--- The different paths in depth-first order, with what each has together: a path comes before those that go on from it,
--- and paths with one caller rise by function.
+-- The different paths in depth-first order, with what each has together: a path comes before those that go on
+-- from it, and paths with one caller rise by function.
 unfoldable pub by_path : List PathNumbers → List PathNumbers
-by_path ns = map (λ path. path_total path (numbers_for path ns)) (in_order (slice_cmp nat_cmp) (map (λ n. n.path) ns))
+by_path ns = map (λ path. path_total path (numbers_for path ns))
+    (in_order (slice_cmp nat_cmp) (map (λ n. n.path) ns))
 
 -- the sum of two profiles
 unfoldable pub sum_of_paths : PathProfile → PathProfile → PathProfile
@@ -75,7 +77,8 @@ pub record IsDepthFirst (rows : List PathRow) : Type 0 where
   pub depths : map (λ r. r.depth) rows ≡ map (λ n. length n.path) (numbers_of rows)
   pub rising : IsStrictlySortedBy (slice_cmp nat_cmp) (map (λ n. n.path) (numbers_of rows))
 
--- which of two rows that may come next stands first: the deeper one, and of two as deep that of the lower function
+-- which of two rows that may come next stands first: the deeper one, and of two as deep that of the lower
+-- function
 abbrev pub path_row_place : PathRow → PathRow → Ordering
 path_row_place r s = ordering_then (nat_cmp s.depth r.depth) (nat_cmp r.func s.func)
 

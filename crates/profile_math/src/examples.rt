@@ -3,6 +3,9 @@
 ghost use Rattle.std.specs.Prelude.{◌≡◌, true, false, [], ◌∷◌};
 ghost use Rattle.profile_math.specs.Closing.{closed};
 ghost use Rattle.profile_math.specs.Examples.{row, nothing, evens, odds};
+ghost use Rattle.profile_math.specs.Examples.{path_row, no_paths, recursive, calls_both_ways};
+ghost use Rattle.profile_math.specs.PathClosing.{closed_paths};
+ghost use Rattle.profile_math.specs.PathSum.{sum_of_paths};
 ghost use Rattle.profile_math.specs.Sum.{sum_of};
 ghost use Rattle.trace_base.specs.Examples.{recursion, two_calls};
 ghost use Rattle.trace_base.specs.Flat.{flat};
@@ -47,4 +50,36 @@ pub fn closings_of_small_profiles()
       rows = row 2 1 4 3 ∷ row 3 1 5 1 ∷ row 4 2 2 1 ∷ [];
     } }
     ensures known { closed 4 false evens ≡ record { bare = 0; rows = row 2 1 4 3 ∷ row 4 2 5 2 ∷ [] } }
+{}
+
+/// Sums by path: of an empty profile on each side, of paths that differ in the callee and in the caller, and
+/// of a child whose parent has none in the first profile.
+#[tactic(auto, unfolding(crate::specs::InOrder::in_order, crate::specs::PathSum::numbers_of, crate::specs::PathSum::by_path, crate::specs::PathSum::sum_of_paths))]
+pub fn sums_of_small_path_profiles()
+    ensures left { sum_of_paths no_paths recursive ≡ recursive }
+    ensures right { sum_of_paths recursive no_paths ≡ recursive }
+    ensures both { sum_of_paths recursive calls_both_ways ≡ record {
+      bare = 3;
+      rows = path_row 1 1 2 14 11 ∷ path_row 2 1 1 2 2 ∷ path_row 2 2 1 1 1
+          ∷ path_row 1 2 1 10 4 ∷ path_row 2 1 3 6 6 ∷ [];
+    } }
+    ensures same { sum_of_paths recursive recursive ≡ record {
+      bare = 2;
+      rows = path_row 1 1 2 10 6 ∷ path_row 2 1 2 4 4 ∷ path_row 1 2 2 8 8 ∷ [];
+    } }
+{}
+
+/// Closings by path: over a function that the content has already, and of a call of no length, begun and not.
+#[tactic(auto, unfolding(crate::specs::PathSum::numbers_of, crate::specs::PathClosing::closed_paths))]
+pub fn closings_of_small_path_profiles()
+    ensures known { closed_paths 1 true recursive ≡ record {
+      bare = 0;
+      rows = path_row 1 1 1 10 1 ∷ path_row 2 1 1 5 3 ∷ path_row 3 1 1 2 2 ∷ path_row 2 2 1 4 4 ∷ [];
+    } }
+    ensures begun { closed_paths 3 true no_paths ≡ record { bare = 0; rows = path_row 1 3 1 0 0 ∷ [] } }
+    ensures not_begun { closed_paths 3 false no_paths ≡ no_paths }
+    ensures bare { closed_paths 3 false (record { bare = 4; rows = [] }) ≡ record {
+      bare = 0;
+      rows = path_row 1 3 0 4 4 ∷ [];
+    } }
 {}

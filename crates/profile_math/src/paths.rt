@@ -3,7 +3,7 @@ ghost use Rattle.profile_math.specs.PathClosing.{closed_paths, one_deeper, call_
 ghost use Rattle.profile_math.specs.PathSum.{sum_of_paths, path_row_place, path_row_plus, path_row_count};
 ghost use Rattle.profile_math.specs.PathSum.{IsDepthFirst, PathRowFits, PathProfileFits};
 
-use crate::merging::{add_rows, Summand};
+use crate::merging::{Summand, add_rows};
 use crate::sums::Sums;
 use std::alloc::Global;
 use std::cmp::Ordering;

@@ -1,4 +1,4 @@
-use Rattle.std.proofs.Common.{◌≡◌, ◌∙◌, ◌<◌, ◌+◌, ◌^◌, All, List, length, subst, sym, ap, rules}
+use Rattle.std.proofs.Common.{◌≡◌, ◌∙◌, All, List, length, subst, sym, ap, rules}
 use Rattle.std.specs.Result.{OnOk}
 use Rattle.trace_base.specs.declared.profile.Row.{Row}
 use Rattle.profile_math.specs.Sum.{RowFits, RisesByFunction}

@@ -1,4 +1,4 @@
-use Rattle.std.proofs.Common.{◌≡◌, ◌<◌, ◌∙◌, length, List, set, subst, sym, ap, rules, arith}
+use Rattle.std.proofs.Common.{◌<◌, ◌∙◌, length, set, subst, sym, ap, rules, arith}
 use Rattle.profile_math.proofs.MergeSteps.{writes-less, writes-equal, writes-greater, merges-end}
 use Rattle.profile_math.proofs.MergeSteps.{inside-less, inside-equal}
 use Rattle.profile_math.proofs.merging.merge_from.Goals as goal

@@ -1,8 +1,8 @@
-use Rattle.std.proofs.Common.{◌≡◌, ◌∙◌, ◌<◌, ◌^◌, ◌+◌, All, List, length, subst, sym, ap, rules}
+use Rattle.std.proofs.Common.{◌∙◌, ◌<◌, ◌^◌, ◌+◌, All, List, length, subst, sym, ap, rules}
 use Rattle.std.proofs.lemmas.Bool.{false≢true}
 use Rattle.trace_base.specs.declared.profile.Row.{Row}
 use Rattle.profile_math.specs.Merging.{merged}
-use Rattle.profile_math.specs.Sum.{row_place, row_plus, sum_of, RowFits, RisesByFunction}
+use Rattle.profile_math.specs.Sum.{row_place, row_plus, RowFits, RisesByFunction}
 use Rattle.profile_math.proofs.RowSums.{sum_rows, sum_is, sum-rises, sum-bare}
 use Rattle.profile_math.proofs.flat.ProfileSums.add.Goals as goal
 

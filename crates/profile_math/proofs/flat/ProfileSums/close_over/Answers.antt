@@ -1,4 +1,4 @@
-use Rattle.std.proofs.Common.{◌≡◌, ◌∙◌, ◌<◌, ◌+◌, ◌^◌, All, List, length, subst, sym, ap, sum_by, rules}
+use Rattle.std.proofs.Common.{◌∙◌, ◌<◌, ◌+◌, ◌^◌, All, List, length, subst, sym, ap, sum_by, rules}
 use Rattle.std.proofs.lemmas.Bool.{false≢true}
 use Rattle.trace_base.specs.declared.profile.Row.{Row}
 use Rattle.profile_math.specs.Closing.{call_row, closed_rows}

@@ -1,8 +1,8 @@
-use Rattle.std.proofs.Common.{◌≡◌, ◌∙◌, ◌<◌, ◌^◌, ◌+◌, All, List, length, subst, sym, ap, rules}
+use Rattle.std.proofs.Common.{◌∙◌, ◌<◌, ◌^◌, ◌+◌, All, List, length, subst, sym, ap, rules}
 use Rattle.std.proofs.lemmas.Bool.{false≢true}
 use Rattle.trace_base.specs.declared.profile.PathRow.{PathRow}
 use Rattle.profile_math.specs.Merging.{merged}
-use Rattle.profile_math.specs.PathSum.{path_row_place, path_row_plus, sum_of_paths, PathRowFits, IsDepthFirst}
+use Rattle.profile_math.specs.PathSum.{path_row_place, path_row_plus, PathRowFits, IsDepthFirst}
 use Rattle.profile_math.proofs.PathSums.{sum_rows, sum_is, sum-ordered, sum-bare}
 use Rattle.profile_math.proofs.paths.PathProfileSums.add.Goals as goal
 
@@ -14,7 +14,8 @@ add_rows-requires c = subst (All PathRowFits)
 
 pub returns-in_err-add_rows-clause-in_place : goal.returns-in_err-add_rows-clause-in_place
 returns-in_err-add_rows-clause-in_place c = λ e. absurd (false≢true (c.in_err-add_rows.ensures.in_place
-    (ap (λ (us : List PathRow). length (merged path_row_place path_row_plus c.args.self.now.rows us)) c.as_slice.ensures
+    (ap (λ (us : List PathRow). length (merged path_row_place path_row_plus c.args.self.now.rows us))
+    c.as_slice.ensures
     ∙ ap length (sum_rows c.args.self.now c.args.other.now c.requires.ordered c.requires.other_ordered) ∙ e)))
 
 pub overflow_add-self : goal.overflow_add-self
