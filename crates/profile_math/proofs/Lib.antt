@@ -10,4 +10,5 @@ pub mod PathSums
 pub mod RowClosings
 pub mod RowSums
 pub mod Shares
+pub mod TestProfiles
 pub mod Times
