@@ -19,7 +19,7 @@ use Rattle.profile_math.specs.Laws.{call_of}
 use Rattle.profile_math.proofs.Times.{sum_by-filter}
 
 -- what the i-th piece has of the interval, where the call stack has the property
-part : (List ℕ → Bool) → ℕ → ℕ → TrackStream → ℕ → ℕ
+unfoldable pub part : (List ℕ → Bool) → ℕ → ℕ → TrackStream → ℕ → ℕ
 part has a b s i = cond (has (stack_after (take i s.events))) (clip a b (piece s i)) 0
 
 sum_by-map : {X Y : Type 0} (f : Y → ℕ) (g : X → Y) (xs : List X)
@@ -28,7 +28,7 @@ sum_by-map f g [] = refl
 sum_by-map f g (x ∷ xs) = sum_by-cons f (g x) (map g xs) ∙ ap (λ n. f (g x) + n) (sum_by-map f g xs)
     ∙ sym (sum_by-cons (λ y. f (g y)) x xs)
 
-time-parts : (has : List ℕ → Bool) (a b : ℕ) (s : TrackStream) → time_with has a b s ≡ sum_by (part has a b s)
+pub time-parts : (has : List ℕ → Bool) (a b : ℕ) (s : TrackStream) → time_with has a b s ≡ sum_by (part has a b s)
     (range_with_len 0 (length s.events + 1))
 unfolding time_with pieces part
 time-parts has a b s = sum_by-filter (clip a b) (λ p. has p.stack)

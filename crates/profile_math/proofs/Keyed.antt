@@ -60,6 +60,12 @@ climbs-from cmp key (x ∷ xs) h = (
   climbs-from cmp key xs h.1,
 )
 
+pub climbs-sorted : {K : Type 0} (cmp : K → K → Ordering) (ks : List K) → IsStrictlySortedBy cmp ks
+    → Climbs cmp (λ k. k) ks
+unfolding IsStrictlySortedBy
+climbs-sorted cmp [] h = tt
+climbs-sorted cmp (k ∷ ks) h = (h.0, climbs-sorted cmp ks h.1)
+
 pub sorted-from : {K X : Type 0} (cmp : K → K → Ordering) (key : X → K) (xs : List X) → Climbs cmp key xs
     → IsStrictlySortedBy cmp (map key xs)
 unfolding IsStrictlySortedBy
@@ -74,7 +80,7 @@ pub turned_back : {K : Type 0} (cmp : K → K → Ordering) → IsTotalOrder cmp
     → cmp k j ≡ Less
 turned_back cmp o j k e = o.antisymm k j ∙ ap ordering_reverse e
 
-equal-from : (o : Ordering) → is_eq o ≡ true → o ≡ Equal
+pub equal-from : (o : Ordering) → is_eq o ≡ true → o ≡ Equal
 equal-from Less e = cc
 equal-from Equal e = refl
 equal-from Greater e = cc
@@ -96,16 +102,17 @@ none-at cmp o key k xs h = filter_none (λ x. is_eq (cmp (key x) k)) xs (all_map
     (λ y. is_eq (cmp (key y) k) ≡ false) (λ y l. ap is_eq (turned cmp o k (key y) l)) xs h)
 
 -- nor a key that ties with it
-none-tied : {K X : Type 0} (cmp : K → K → Ordering) → IsTotalOrder cmp → (key : X → K) (j k : K) (xs : List X)
+pub none-tied : {K X : Type 0} (cmp : K → K → Ordering) → IsTotalOrder cmp
+    → (key : X → K) (j k : K) (xs : List X)
     → cmp j k ≡ Equal → AllByRecursion (λ y. cmp j (key y) ≡ Less) xs → at cmp key k xs ≡ []
 none-tied cmp o key j k xs e h = none-at cmp o key k xs (all_mapped (λ y. cmp j (key y) ≡ Less)
     (λ y. cmp k (key y) ≡ Less) (λ y l. sym (o.congr j k (key y) e) ∙ l) xs h)
 
-at-yes : {K X : Type 0} (cmp : K → K → Ordering) (key : X → K) (k : K) (x : X) (xs : List X)
+pub at-yes : {K X : Type 0} (cmp : K → K → Ordering) (key : X → K) (k : K) (x : X) (xs : List X)
     → is_eq (cmp (key x) k) ≡ true → at cmp key k (x ∷ xs) ≡ x ∷ at cmp key k xs
 at-yes cmp key k x xs e = cond-true (is_eq (cmp (key x) k)) (x ∷ at cmp key k xs) (at cmp key k xs) e
 
-at-no : {K X : Type 0} (cmp : K → K → Ordering) (key : X → K) (k : K) (x : X) (xs : List X)
+pub at-no : {K X : Type 0} (cmp : K → K → Ordering) (key : X → K) (k : K) (x : X) (xs : List X)
     → is_eq (cmp (key x) k) ≡ false → at cmp key k (x ∷ xs) ≡ at cmp key k xs
 at-no cmp key k x xs e = cond-false (is_eq (cmp (key x) k)) (x ∷ at cmp key k xs) (at cmp key k xs) e
 
@@ -220,7 +227,7 @@ filter_filter_none p q h (x ∷ xs) =
       | inr e ↦ ap (filter p) (cond-false (q x) (x ∷ filter q xs) (filter q xs) e) ∙ rest
     ]
 
-filter-map : {X Y : Type 0} (p : Y → Bool) (f : X → Y) (xs : List X) → filter p (map f xs) ≡ map f
+pub filter-map : {X Y : Type 0} (p : Y → Bool) (f : X → Y) (xs : List X) → filter p (map f xs) ≡ map f
     (filter (λ x. p (f x)) xs)
 filter-map p f [] = refl
 filter-map {X} {Y} p f (x ∷ xs) =
@@ -335,7 +342,7 @@ all_mapped_keys cmp key f back k (j ∷ js) h = (
       h.1,
 )
 
-climbs-map : {K X : Type 0} (cmp : K → K → Ordering) (key : X → K) (f : K → X) → ((k : K) → key (f k) ≡ k)
+pub climbs-map : {K X : Type 0} (cmp : K → K → Ordering) (key : X → K) (f : K → X) → ((k : K) → key (f k) ≡ k)
     → (ks : List K) → Climbs cmp (λ j. j) ks → Climbs cmp key (map f ks)
 climbs-map cmp key f back [] h = tt
 climbs-map cmp key f back (k ∷ ks) h = (

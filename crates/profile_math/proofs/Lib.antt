@@ -5,6 +5,7 @@ pub mod FlatRows
 pub mod Keyed
 pub mod MergeSteps
 pub mod PathClosings
+pub mod PathLaws
 pub mod PathMerging
 pub mod PathSums
 pub mod RowClosings
@@ -12,3 +13,4 @@ pub mod RowSums
 pub mod Shares
 pub mod TestProfiles
 pub mod Times
+pub mod Told

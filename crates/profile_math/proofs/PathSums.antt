@@ -37,7 +37,7 @@ map_agree f g h [] = refl
 map_agree {X} {Y} f g h (x ∷ xs) = ap (λ y. y ∷ map f xs) (h x) ∙ ap (λ (ys : List Y). g x ∷ ys)
     (map_agree f g h xs)
 
-by_path-is : (ns : List PathNumbers) → by_path ns ≡ sums lex path_of path_total ns
+pub by_path-is : (ns : List PathNumbers) → by_path ns ≡ sums lex path_of path_total ns
 unfolding by_path
 by_path-is ns = map_agree (λ p. path_total p (numbers_for p ns)) (λ p. path_total p (at lex path_of p ns))
     (λ p. ap (path_total p) (filter_agree (λ n. pointwise nat_eq n.path p) (λ n. is_eq (lex n.path p))

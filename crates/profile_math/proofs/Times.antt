@@ -69,6 +69,11 @@ unfolding time_with
 time-plus has a b c h g s = sum_by-plus (clip a c) (clip a b) (clip b c) (clip-plus a b c h g)
     (filter (λ p. has p.stack) (pieces s))
 
+pub within-plus : (a b c t : ℕ) → a ≤ b → b ≤ c → cond (nat_le a t && nat_lt t c) 1 0 ≡ cond
+    (nat_le a t && nat_lt t b) 1 0
+    + cond (nat_le b t && nat_lt t c) 1 0
+within-plus a b c t h g = grind (arith, nat_tests)
+
 enters-plus : (f a b c : ℕ) → a ≤ b → b ≤ c → (e : Event) → cond (enters_in f a c e) 1 0 ≡ cond
     (enters_in f a b e) 1 0
     + cond (enters_in f b c e) 1 0
@@ -79,11 +84,6 @@ enters-plus f a b c h g (Enter k t) =
       | true ↦ within-plus a b c t h g
       | false ↦ refl
     ]
-  where
-    within-plus : (a b c t : ℕ) → a ≤ b → b ≤ c → cond (nat_le a t && nat_lt t c) 1 0 ≡ cond
-        (nat_le a t && nat_lt t b) 1 0
-        + cond (nat_le b t && nat_lt t c) 1 0
-    within-plus a b c t h g = grind (arith, nat_tests)
 enters-plus f a b c h g (Leave t) = refl
 
 pub calls-plus : (f a b c : ℕ) → a ≤ b → b ≤ c → (s : TrackStream)

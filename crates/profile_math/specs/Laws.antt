@@ -2,10 +2,12 @@
 -- half-open.
 use Rattle.std.specs.Prelude.{◌≡◌, ℕ, ◌≤◌, List, [], ◌∷◌, ◌++◌}
 use Rattle.trace_base.specs.Flat.{flat, is_within}
+use Rattle.trace_base.specs.Paths.{paths}
 use Rattle.trace_base.specs.Stream.{IsLegal}
 use Rattle.trace_base.specs.declared.stream.Event.TheVariants.{Enter, Leave}
 use Rattle.trace_base.specs.declared.stream.TrackStream.{TrackStream}
 use Rattle.profile_math.specs.Closing.{closed}
+use Rattle.profile_math.specs.PathSum.{sum_of_paths, IsDepthFirst}
 use Rattle.profile_math.specs.Sum.{sum_of, RisesByFunction}
 
 -- the profile of several streams is the sum of each one's
@@ -34,3 +36,17 @@ FlatOfCall = (inner : TrackStream) (f a b : ℕ) → IsLegal inner → 1 ≤ f
 -- the rows of a flat profile rise by function, so that it can be added to
 abbrev pub FlatRises : Type 0
 FlatRises = (streams : List TrackStream) (a b : ℕ) → RisesByFunction (flat streams a b).rows
+
+-- the call-tree profile of several streams is the sum of each one's
+abbrev pub PathsOfStreams : Type 0
+PathsOfStreams = (streams more : List TrackStream) (a b : ℕ)
+    → paths (streams ++ more) a b ≡ sum_of_paths (paths streams a b) (paths more a b)
+
+-- the call-tree profile of two intervals, one after the other, is the sum of theirs
+abbrev pub PathsOfIntervals : Type 0
+PathsOfIntervals = (streams : List TrackStream) (a b c : ℕ) → a ≤ b → b ≤ c
+    → paths streams a c ≡ sum_of_paths (paths streams a b) (paths streams b c)
+
+-- the rows of a call-tree profile stand in depth-first order, so that it can be added to
+abbrev pub PathsDepthFirst : Type 0
+PathsDepthFirst = (streams : List TrackStream) (a b : ℕ) → IsDepthFirst (paths streams a b).rows

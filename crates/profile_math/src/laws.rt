@@ -1,5 +1,6 @@
 //! What the sum and the closing of profiles have to do with the profiles of streams. The bodies are empty.
 ghost use Rattle.profile_math.specs.Laws.{FlatOfStreams, FlatOfIntervals, FlatOfCall, FlatRises};
+ghost use Rattle.profile_math.specs.Laws.{PathsOfStreams, PathsOfIntervals, PathsDepthFirst};
 
 /// The flat profile of several streams is the sum of each one's.
 #[tactic(auto, using(crate::proofs::FlatLaws::laws))]
@@ -25,4 +26,22 @@ pub fn flat_of_call()
 #[tactic(auto, using(crate::proofs::FlatLaws::laws))]
 pub fn flat_in_order()
     ensures { FlatRises }
+{}
+
+/// The call-tree profile of several streams is the sum of each one's.
+#[tactic(auto, using(crate::proofs::PathLaws::laws))]
+pub fn paths_of_streams()
+    ensures { PathsOfStreams }
+{}
+
+/// The call-tree profile of two intervals of some streams, one after the other, is the sum of theirs: each
+/// call counts in the one in which it begins.
+#[tactic(auto, using(crate::proofs::PathLaws::laws))]
+pub fn paths_of_intervals()
+    ensures { PathsOfIntervals }
+{}
+
+/// The rows of a call-tree profile stand in depth-first order, so that it can be added to and closed.
+pub fn paths_in_order()
+    ensures { PathsDepthFirst }
 {}
