@@ -22,13 +22,14 @@ use Rattle.profile_math.proofs.Times.{sum_by-filter}
 unfoldable pub part : (List ℕ → Bool) → ℕ → ℕ → TrackStream → ℕ → ℕ
 part has a b s i = cond (has (stack_after (take i s.events))) (clip a b (piece s i)) 0
 
-sum_by-map : {X Y : Type 0} (f : Y → ℕ) (g : X → Y) (xs : List X)
+pub sum_by-map : {X Y : Type 0} (f : Y → ℕ) (g : X → Y) (xs : List X)
     → sum_by f (map g xs) ≡ sum_by (λ x. f (g x)) xs
 sum_by-map f g [] = refl
 sum_by-map f g (x ∷ xs) = sum_by-cons f (g x) (map g xs) ∙ ap (λ n. f (g x) + n) (sum_by-map f g xs)
     ∙ sym (sum_by-cons (λ y. f (g y)) x xs)
 
-pub time-parts : (has : List ℕ → Bool) (a b : ℕ) (s : TrackStream) → time_with has a b s ≡ sum_by (part has a b s)
+pub time-parts : (has : List ℕ → Bool) (a b : ℕ) (s : TrackStream)
+    → time_with has a b s ≡ sum_by (part has a b s)
     (range_with_len 0 (length s.events + 1))
 unfolding time_with pieces part
 time-parts has a b s = sum_by-filter (clip a b) (λ p. has p.stack)
@@ -36,7 +37,7 @@ time-parts has a b s = sum_by-filter (clip a b) (λ p. has p.stack)
     ∙ sum_by-map (λ p. cond (has p.stack) (clip a b p) 0) (piece s) (range_with_len 0 (length s.events + 1))
 
 -- sums over ranges of numbers
-range-same : (f g : ℕ → ℕ) (a n : ℕ) → ((i : ℕ) → a ≤ i → i < a + n → f i ≡ g i)
+pub range-same : (f g : ℕ → ℕ) (a n : ℕ) → ((i : ℕ) → a ≤ i → i < a + n → f i ≡ g i)
     → sum_by f (range_with_len a n) ≡ sum_by g (range_with_len a n)
 range-same f g a zero h = refl
 range-same f g a (suc n) h = sum_by-cons f a (range_with_len (a + 1) n)
@@ -47,7 +48,7 @@ range-same f g a (suc n) h = sum_by-cons f a (range_with_len (a + 1) n)
     )
     ∙ sym (sum_by-cons g a (range_with_len (a + 1) n))
 
-range-next : (f : ℕ → ℕ) (a n : ℕ) → sum_by f (range_with_len (a + 1) n) ≡ sum_by (λ i. f (i + 1))
+pub range-next : (f : ℕ → ℕ) (a n : ℕ) → sum_by f (range_with_len (a + 1) n) ≡ sum_by (λ i. f (i + 1))
     (range_with_len a n)
 range-next f a zero = refl
 range-next f a (suc n) = sum_by-cons f (a + 1) (range_with_len (a + 1 + 1) n)

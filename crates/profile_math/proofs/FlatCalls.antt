@@ -153,7 +153,7 @@ closed-climbs xs call h =
     back above)) front (all_passed (λ r. nat_lt r.func f) xs))
 
 -- the sums over one stream
-one_sum : (f : TrackStream → ℕ) (s : TrackStream) → sum_by f (s ∷ []) ≡ f s
+pub one_sum : (f : TrackStream → ℕ) (s : TrackStream) → sum_by f (s ∷ []) ≡ f s
 one_sum f s = zero-add (f s)
 
 row_made : (r : Row) (f c i e : ℕ) → r.func ≡ f → r.calls ≡ c → r.incl ≡ i → r.excl ≡ e
@@ -176,7 +176,7 @@ row-excl : (s : TrackStream) (a b k : ℕ) → (row_of (s ∷ []) a b k).excl �
 unfolding row_of
 row-excl s a b k = one_sum (time_with (is_innermost_in k) a b) s
 
-is_bare-cons : (x : ℕ) (xs : List ℕ) → is_bare (x ∷ xs) ≡ false
+pub is_bare-cons : (x : ℕ) (xs : List ℕ) → is_bare (x ∷ xs) ≡ false
 is_bare-cons x xs = ne_eqb (length (x ∷ xs)) 0 (λ e. omega (arith, e))
 
 -- how the call changes the test of the innermost and of the open functions

@@ -4,6 +4,7 @@ pub mod FlatLaws
 pub mod FlatRows
 pub mod Keyed
 pub mod MergeSteps
+pub mod PathCalls
 pub mod PathClosings
 pub mod PathLaws
 pub mod PathMerging

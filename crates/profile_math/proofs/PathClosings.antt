@@ -82,21 +82,21 @@ numbers-deeper f a (r ∷ rs) h =
       ),
     )
 
-lex-under : (f : ℕ) (p q : List ℕ) → lex (f ∷ p) (f ∷ q) ≡ lex p q
+pub lex-under : (f : ℕ) (p q : List ℕ) → lex (f ∷ p) (f ∷ q) ≡ lex p q
 lex-under f p q = ap (λ o. ordering_then o (lex p q)) (tied_itself nat_cmp_total f)
 
-all-under : (f : ℕ) (p : List ℕ) (ns : List PathNumbers) → AllByRecursion (λ n. lex p n.path ≡ Less) ns
+pub all-under : (f : ℕ) (p : List ℕ) (ns : List PathNumbers) → AllByRecursion (λ n. lex p n.path ≡ Less) ns
     → AllByRecursion (λ n. lex (f ∷ p) n.path ≡ Less) (map (under_call f) ns)
 all-under f p [] h = tt
 all-under f p (n ∷ ns) h = (lex-under f p n.path ∙ h.0, all-under f p ns h.1)
 
-climbs-under : (f : ℕ) (ns : List PathNumbers) → Climbs lex path_of ns
+pub climbs-under : (f : ℕ) (ns : List PathNumbers) → Climbs lex path_of ns
     → Climbs lex path_of (map (under_call f) ns)
 climbs-under f [] h = tt
 climbs-under f (n ∷ ns) h = (all-under f n.path ns h.0, climbs-under f ns h.1)
 
 -- every path has a function
-all-some : (a : List ℕ) (rows : List PathRow) → AllByRecursion (λ n. lex [] n.path ≡ Less)
+pub all-some : (a : List ℕ) (rows : List PathRow) → AllByRecursion (λ n. lex [] n.path ≡ Less)
     (numbers_after a rows)
 all-some a [] = tt
 all-some a (r ∷ rs) = (nil-first (take (r.depth - 1) a) r.func, all-some (path_after a r) rs)
@@ -126,7 +126,8 @@ closed-ordered f begun p h =
     (omega arith, omega arith, under.1) (
       subst (AllByRecursion (λ (n : PathNumbers). lex (f ∷ []) n.path ≡ Less)) (sym under.0)
           (all-under f [] (numbers_after [] p.rows) (all-some [] p.rows)),
-      subst (Climbs lex path_of) (sym under.0) (climbs-under f (numbers_after [] p.rows) (climbs-of p.rows h)),
+      subst (Climbs lex path_of) (sym under.0)
+          (climbs-under f (numbers_after [] p.rows) (climbs-of p.rows h)),
     )
 
 -- the call's numbers fit, and each depth plus one does
@@ -149,7 +150,7 @@ or_none : (a b : Bool) → (a || b) ≡ false → (a ≡ false) × (b ≡ false)
 or_none true b e = absurd (true≢false e)
 or_none false b e = (refl, e)
 
-not_false : (b : Bool) → not b ≡ false → b ≡ true
+pub not_false : (b : Bool) → not b ≡ false → b ≡ true
 not_false true e = refl
 not_false false e = absurd (true≢false e)
 

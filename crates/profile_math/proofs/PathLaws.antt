@@ -1,13 +1,13 @@
 -- The call-tree profile of several streams, and of two intervals one after the other.
 use Rattle.std.proofs.Common.{◌≡◌, ◌≢◌, ℕ, ◌+◌, ◌-◌, ◌<◌, ◌≤◌, Bool, true, false, cond, ◌&&◌, ◌||◌, List, []}
-use Rattle.std.proofs.Common.{◌∷◌, ◌++◌, length, take, map, filter, sum_by, nat_lt, nat_le, Option, None}
+use Rattle.std.proofs.Common.{◌∷◌, ◌++◌, length, take, map, filter, sum_by, nat_lt, Option, None}
 use Rattle.std.proofs.Common.{Some, refl}
 use Rattle.std.proofs.Common.{ap, sym, subst, ◌∙◌, ◌⊎◌, inl, inr, arith, slice_get, add-zero, zero-add}
 use Rattle.std.specs.Cmp.Lexicographic.{texts_ties}
 use Rattle.std.specs.List.{Contains, range_with_len}
 use Rattle.std.specs.Option.{option_map_or}
-use Rattle.std.specs.Ordering.{nat_cmp, is_eq}
-use Rattle.std.proofs.lemmas.Bool.{cases_Bool, cases_lt, ltb-false, lt-ltb, ltb-true, true≢false}
+use Rattle.std.specs.Ordering.{is_eq}
+use Rattle.std.proofs.lemmas.Bool.{cases_lt, ltb-false, lt-ltb, ltb-true, true≢false}
 use Rattle.std.proofs.lemmas.Bool.Decides.{nat_tests}
 use Rattle.std.proofs.lemmas.Cmp.{nat_list_cmp_total, tied_itself}
 use Rattle.std.proofs.lemmas.List.{length-take, take-take, take_all}
@@ -15,12 +15,10 @@ use Rattle.std.proofs.lemmas.List.Sums.{sum_by-append, sum_by-cons}
 use Rattle.trace_base.proofs.CallPaths.{call_paths-rising}
 use Rattle.trace_base.proofs.InOrder.{has_here, has_there}
 use Rattle.trace_base.specs.Flat.{is_bare, is_within, time_with}
-use Rattle.trace_base.specs.InOrder.{IsRisingListOf}
 use Rattle.trace_base.specs.Paths.{call_paths, calls_making, is_path, is_under, makes, path_row, path_stands}
 use Rattle.trace_base.specs.Paths.{paths, IsPathOf}
 use Rattle.trace_base.specs.Stream.{is_enter, stack_after, time_of}
 use Rattle.trace_base.specs.declared.profile.PathProfile.{PathProfile}
-use Rattle.trace_base.specs.declared.profile.PathRow.{PathRow}
 use Rattle.trace_base.specs.declared.stream.Event.{Event}
 use Rattle.trace_base.specs.declared.stream.TrackStream.{TrackStream}
 use Rattle.profile_math.specs.PathSum.{PathNumbers, by_path, numbers_of, row_of_path, sum_of_paths}
@@ -31,7 +29,7 @@ use Rattle.profile_math.proofs.Keyed.{climbs-sorted}
 use Rattle.profile_math.proofs.PathMerging.{lex, numbers_plus}
 use Rattle.profile_math.proofs.Times.{sum-le, sum_by-plus, time-le, time-plus, within-plus}
 use Rattle.profile_math.proofs.Told.{Tells, map-map, no_numbers, parent, same_path, told, told-depth-first}
-use Rattle.profile_math.proofs.Told.{told-is, told-numbers, told-sum}
+use Rattle.profile_math.proofs.Told.{told-numbers, told-sum}
 
 -- ---- what makes a sum positive
 
@@ -287,6 +285,32 @@ path-own : (ss : List TrackStream) (a b : ℕ) (k : List ℕ) → (path_numbers 
 unfolding path_numbers
 path-own ss a b k = refl
 
+-- what the path has in one stream
+pub path-one : (s : TrackStream) (a b : ℕ) (k : List ℕ) → path_numbers (s ∷ []) a b k ≡ record {
+  path = k;
+  calls = calls_making (is_path k) a b s;
+  incl = time_with (is_under k) a b s;
+  excl = time_with (is_path k) a b s;
+}
+unfolding path_numbers
+path-one s a b k = rw (
+  zero-add (calls_making (is_path k) a b s),
+  zero-add (time_with (is_under k) a b s),
+  zero-add (time_with (is_path k) a b s),
+) refl
+
+pub one-excl : (s : TrackStream) (a b : ℕ) (k : List ℕ) → (path_numbers (s ∷ []) a b k).excl
+    ≡ time_with (is_path k) a b s
+one-excl s a b k = ap (λ n. n.excl) (path-one s a b k)
+
+pub stands-one : (s : TrackStream) (a b : ℕ) (k : List ℕ) → path_stands (s ∷ []) a b k
+    ≡ (nat_lt 0 (calls_making (is_under k) a b s) || nat_lt 0 (time_with (is_under k) a b s))
+unfolding path_stands
+stands-one s a b k = rw (
+  zero-add (calls_making (is_under k) a b s),
+  zero-add (time_with (is_under k) a b s),
+) refl
+
 -- the numbers are told by the paths
 pub paths-told : (ss : List TrackStream) (a b : ℕ)
     → Tells (path_numbers ss a b) (path_stands ss a b) (call_paths ss)
@@ -312,7 +336,7 @@ paths-depth-first ss a b = subst IsDepthFirst (sym (paths-rows ss a b))
 
 -- ---- sums
 
-numbers_same : (k : List ℕ) (c1 c2 i1 i2 e1 e2 : ℕ) → c1 ≡ c2 → i1 ≡ i2 → e1 ≡ e2
+pub numbers_same : (k : List ℕ) (c1 c2 i1 i2 e1 e2 : ℕ) → c1 ≡ c2 → i1 ≡ i2 → e1 ≡ e2
     → (let m : PathNumbers = record { path = k; calls = c1; incl = i1; excl = e1 } in
     let n : PathNumbers = record { path = k; calls = c2; incl = i2; excl = e2 } in m ≡ n)
 numbers_same k c1 c2 i1 i2 e1 e2 ec ei ee = rw (ec, ei, ee) refl

@@ -52,10 +52,10 @@ abbrev Behind : List ℕ → List PathRow → Type 0
 Behind a [] = Unit {0}
 Behind a (r ∷ rs) = lex a (path_after a r) ≡ Less
 
-head_of : (k l : ℕ) (ks ls : List ℕ) → k ∷ ks ≡ l ∷ ls → k ≡ l
+pub head_of : (k l : ℕ) (ks ls : List ℕ) → k ∷ ks ≡ l ∷ ls → k ≡ l
 head_of k l ks ls e = cc
 
-tail_of : (k l : ℕ) (ks ls : List ℕ) → k ∷ ks ≡ l ∷ ls → ks ≡ ls
+pub tail_of : (k l : ℕ) (ks ls : List ℕ) → k ∷ ks ≡ l ∷ ls → ks ≡ ls
 tail_of k l ks ls e = cc
 
 chain-from : (a : List ℕ) (rows : List PathRow) → map (λ r. r.depth) rows ≡ map (λ n. length n.path)
@@ -151,7 +151,8 @@ path_rows xs ys h g =
     (climbs-of xs h) (climbs-of ys g) ∙ sym (by_path-is (numbers_after [] xs ++ numbers_after [] ys)) in (
       rows-of [] zs both.deep ∙ ap (map row_of_path) is,
       depth_first zs both.deep (subst (Climbs lex path_of) (sym both.same)
-          (merged-climbs lex path_of path_total numbers_plus path_totals (numbers_after [] xs) (numbers_after [] ys)
+          (merged-climbs lex path_of path_total numbers_plus path_totals (numbers_after [] xs)
+          (numbers_after [] ys)
           (climbs-of xs h) (climbs-of ys g))),
     )
 

@@ -6,11 +6,10 @@ use Rattle.std.proofs.Common.{◌⊎◌, inl, inr, arith, add-zero, zero-add}
 use Rattle.std.specs.List.{AllByRecursion, Contains}
 use Rattle.std.specs.List.Sorted.{IsStrictlySortedBy}
 use Rattle.std.specs.Ordering.{nat_cmp, is_eq, ordering_then, ordering_reverse}
-use Rattle.std.specs.declared.cmp.Ordering.{Ordering}
 use Rattle.std.specs.declared.cmp.Ordering.TheVariants.{Less, Equal, Greater}
-use Rattle.std.proofs.lemmas.Bool.{cases_Bool, cond-true, true≢false}
+use Rattle.std.proofs.lemmas.Bool.{cases_Bool, true≢false}
 use Rattle.std.proofs.lemmas.Cmp.{nat_cmp_total, nat_list_cmp_total, ranked, tied_itself}
-use Rattle.std.proofs.lemmas.List.{length-take, nil_from_length}
+use Rattle.std.proofs.lemmas.List.{nil_from_length}
 use Rattle.std.proofs.lemmas.List.Elements.{filter_agree, filter-append}
 use Rattle.trace_base.proofs.InOrder.{has_cons, has_here, has_there}
 use Rattle.trace_base.proofs.Order.{all_filter, filter_none}
@@ -58,7 +57,7 @@ filter-keeps {X} p (y ∷ ys) x c t = by (p y) refl (λ h. filter-keeps p ys x h
       | inr later ↦ rest later
     ]
 
-all_from : {X : Type 0} (P : X → Type 0) (xs : List X) → ((x : X) → Contains xs x → P x)
+pub all_from : {X : Type 0} (P : X → Type 0) (xs : List X) → ((x : X) → Contains xs x → P x)
     → AllByRecursion P xs
 all_from P [] h = tt
 all_from P (x ∷ xs) h = (h x (has_here x xs), all_from P xs (λ y c. h y (has_there x y xs c)))

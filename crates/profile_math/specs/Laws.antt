@@ -7,6 +7,7 @@ use Rattle.trace_base.specs.Stream.{IsLegal}
 use Rattle.trace_base.specs.declared.stream.Event.TheVariants.{Enter, Leave}
 use Rattle.trace_base.specs.declared.stream.TrackStream.{TrackStream}
 use Rattle.profile_math.specs.Closing.{closed}
+use Rattle.profile_math.specs.PathClosing.{closed_paths}
 use Rattle.profile_math.specs.PathSum.{sum_of_paths, IsDepthFirst}
 use Rattle.profile_math.specs.Sum.{sum_of, RisesByFunction}
 
@@ -46,6 +47,11 @@ PathsOfStreams = (streams more : List TrackStream) (a b : ℕ)
 abbrev pub PathsOfIntervals : Type 0
 PathsOfIntervals = (streams : List TrackStream) (a b c : ℕ) → a ≤ b → b ≤ c
     → paths streams a c ≡ sum_of_paths (paths streams a b) (paths streams b c)
+
+-- the call-tree profile of a call is the closing of the profile of what it encloses
+abbrev pub PathsOfCall : Type 0
+PathsOfCall = (inner : TrackStream) (f a b : ℕ) → IsLegal inner
+    → paths (call_of f inner ∷ []) a b ≡ closed_paths f (is_within a b inner.start) (paths (inner ∷ []) a b)
 
 -- the rows of a call-tree profile stand in depth-first order, so that it can be added to
 abbrev pub PathsDepthFirst : Type 0

@@ -11,7 +11,7 @@ mod sums;
 mod tests;
 
 pub use laws::{
-    flat_in_order, flat_of_call, flat_of_intervals, flat_of_streams, paths_in_order,
+    flat_in_order, flat_of_call, flat_of_intervals, flat_of_streams, paths_in_order, paths_of_call,
     paths_of_intervals, paths_of_streams,
 };
 pub use sums::Sums;
