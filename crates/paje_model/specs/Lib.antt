@@ -4,7 +4,9 @@ pub mod Types
 pub mod Containers
 pub mod Values
 pub mod States
+pub mod Noted
 pub mod Reasons
 pub mod Effects
+pub mod EntityTable
 pub mod Text
 pub mod Examples

@@ -2,6 +2,7 @@
 #![tactic(auto)]
 
 mod effect;
+mod entity_table;
 mod examples;
 mod model_fault;
 mod reason_examples;
