@@ -1,7 +1,7 @@
 -- What a table of entities finds, by the entries of its maps.
 use Rattle.std.proofs.Common.{◌≡◌, ℕ, suc, Bool, true, false, cond, List, [], ◌∷◌, ◌++◌, length, refl, sym}
 use Rattle.std.proofs.Common.{ap}
-use Rattle.std.proofs.Common.{◌∙◌, subst, map, position, Option, Some, None}
+use Rattle.std.proofs.Common.{◌∙◌, subst, map, position, Option, Some, None, is_some, true≢false}
 use Rattle.std.specs.Prelude.{Vec}
 use Rattle.std.specs.List.{find}
 use Rattle.std.specs.Map.{lookup, keys_of}
@@ -11,7 +11,7 @@ use Rattle.std.specs.Cmp.Lexicographic.{bytes_decides}
 use Rattle.std.proofs.lemmas.List.{map-append}
 use Rattle.std.proofs.lemmas.Option.{none-some}
 use Rattle.indexmap.specs.IndexMap.{insert_entry}
-use Rattle.indexmap.proofs.MapLemmas.{absent_from_lookup, insert_entry-absent}
+use Rattle.indexmap.proofs.MapLemmas.{absent_from_lookup, insert_entry-absent, some_index}
 use Rattle.paje_model.specs.declared.entity_table.Declaration.{Declaration}
 use Rattle.paje_model.specs.EntityTable.{entity_at}
 use Rattle.paje_model.specs.Found.{Entity, has_alias, has_name}
@@ -112,3 +112,30 @@ pub named-more : (places : List ℕ → Option ℕ) (old new : List Entity) (e :
 named-more places old new e place at is text noted =
     noted ∙ (ap (λ n. option_or (position (has_name text) old) (cond (bytes_eq text e.name) (Some n) None)) at
     ∙ (sym (position-push (has_name text) old e) ∙ ap (position (has_name text)) (sym is)))
+
+-- ---- functions
+
+pub text-place : {A X : Type 0} (text : List ℕ) (es : List (Vec ℕ A × X))
+    → position (λ k. bytes_eq text k.items) (keys_of es) ≡ position (bytes_eq text) (map (λ k. k.items)
+    (keys_of es))
+text-place text es = sym (position-map (bytes_eq text) (λ k. k.items) (keys_of es))
+
+none_by : {X : Type 0} (o : Option X) → is_some o ≡ false → o ≡ None
+none_by None e = refl
+none_by (Some x) e = absurd (true≢false e)
+
+-- what a look-up by place doesn't find isn't there
+missed : {K X : Type 0} (t : K → Bool) (es : List (K × X)) → position t (keys_of es) ≡ None
+    → lookup t es ≡ None
+missed t es none = none_by (lookup t es) (sym (some_index t es) ∙ ap is_some none)
+
+pub texts-more : {A X : Type 0} (text : List ℕ) (es new : List (Vec ℕ A × X)) (k : Vec ℕ A) (x : X)
+    → k.items ≡ text → position (bytes_eq text) (map (λ k. k.items) (keys_of es)) ≡ None
+    → new ≡ insert_entry same_key es k x
+    → map (λ k. k.items) (keys_of new) ≡ map (λ k. k.items) (keys_of es) ++ text ∷ []
+texts-more text es new k x is none into =
+    ap (λ es. map (λ k. k.items) (keys_of es)) (into ∙ goes_last text es k x is
+    (missed (stands_for text) es (text-place text es ∙ none)))
+    ∙ (ap (map (λ k. k.items)) (map-append (λ e. e.0) es ((k, x) ∷ []))
+    ∙ (map-append (λ k. k.items) (keys_of es) (k ∷ [])
+    ∙ ap (λ text. map (λ k. k.items) (keys_of es) ++ text ∷ []) is))

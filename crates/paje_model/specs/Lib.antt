@@ -1,5 +1,6 @@
 pub mod EventLine
 pub mod Found
+pub mod FunctionTable
 pub mod Types
 pub mod Containers
 pub mod Values

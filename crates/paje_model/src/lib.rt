@@ -4,6 +4,7 @@
 mod effect;
 mod entity_table;
 mod examples;
+mod function_table;
 mod model_fault;
 mod reason_examples;
 mod type_sort;
