@@ -1,6 +1,7 @@
 pub mod EventLine
 pub mod Found
 pub mod FunctionTable
+pub mod TypeTable
 pub mod Types
 pub mod Containers
 pub mod Values

@@ -1,6 +1,6 @@
 //! What was declared with an alias and a name, found by its texts.
 ghost use Rattle.std.specs.Prelude.{◌≡◌, ℕ, ◌<◌, ◌^◌, List, [], ◌∷◌, ◌++◌, length, find, Some, None, OnOk};
-ghost use Rattle.std.specs.Prelude.{option_map, if◌then◌else◌};
+ghost use Rattle.std.specs.Prelude.{option_map, option_copied, slice_get, if◌then◌else◌};
 ghost use Rattle.std.specs.Option.{option_or};
 ghost use Rattle.std.specs.Str.{bytes_eq};
 ghost use Rattle.paje_model.specs.Noted.{place_noted};
@@ -88,6 +88,16 @@ impl EntityTable {
     {
         match self.by_alias.get(alias) {
             Some(declaration) => Some(declaration.line),
+            None => None,
+        }
+    }
+
+    /// The name of the entity at a place, counted from 0.
+    pub fn name(&self, place: usize) -> Option<&[u8]>
+        ensures { option_copied result ≡ option_map (λ e. e.name) (slice_get (entities_in self.now) place) }
+    {
+        match self.by_alias.get_index(place) {
+            Some((_, declaration)) => Some(declaration.name.as_bytes()),
             None => None,
         }
     }

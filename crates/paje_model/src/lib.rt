@@ -8,6 +8,7 @@ mod function_table;
 mod model_fault;
 mod reason_examples;
 mod type_sort;
+mod type_table;
 mod what;
 
 pub use effect::Effect;

@@ -1,0 +1,25 @@
+-- What a table of types stands for, and what one more does to it.
+use Rattle.std.specs.Prelude.{◌≡◌, [], ◌∷◌, ◌++◌, is_some, if◌then◌else◌}
+use Rattle.paje_model.specs.declared.type_sort.TypeSort.{TypeSort}
+use Rattle.paje_model.specs.declared.type_sort.TypeSort.TheVariants as sorts
+use Rattle.paje_model.specs.declared.type_table.TypeTable.{TypeTable}
+use Rattle.paje_model.specs.EntityTable.{IsNamed, entities_in}
+use Rattle.paje_model.specs.Found.{Entity, root}
+use Rattle.paje_model.specs.Types.{state_number, link_number}
+
+-- it has the root type alone
+pub record IsRootType (t : TypeTable) : Type 0 where
+  pub entities : entities_in t.entities ≡ root ∷ []
+  pub named : IsNamed t.entities
+  pub sorts : t.sorts.items ≡ sorts.Container ∷ []
+  pub kinds : t.kinds.items ≡ []
+  pub link_kinds : t.link_kinds.items ≡ []
+
+-- a type goes last, and its name behind those of its sort
+pub record TakesType (old new : TypeTable) (e : Entity) (sort : TypeSort) : Type 0 where
+  pub entities : entities_in new.entities ≡ entities_in old.entities ++ e ∷ []
+  pub named : IsNamed new.entities
+  pub sorts : new.sorts.items ≡ old.sorts.items ++ sort ∷ []
+  pub kinds : new.kinds.items ≡ old.kinds.items ++ (if is_some (state_number sort) then e.name ∷ [] else [])
+  pub link_kinds : new.link_kinds.items ≡ old.link_kinds.items
+      ++ (if is_some (link_number sort) then e.name ∷ [] else [])
