@@ -125,7 +125,7 @@ none_by None e = refl
 none_by (Some x) e = absurd (true≢false e)
 
 -- what a look-up by place doesn't find isn't there
-missed : {K X : Type 0} (t : K → Bool) (es : List (K × X)) → position t (keys_of es) ≡ None
+pub missed : {K X : Type 0} (t : K → Bool) (es : List (K × X)) → position t (keys_of es) ≡ None
     → lookup t es ≡ None
 missed t es none = none_by (lookup t es) (sym (some_index t es) ∙ ap is_some none)
 

@@ -2,8 +2,11 @@ pub mod EventLine
 pub mod Found
 pub mod FunctionTable
 pub mod TypeTable
+pub mod TrackTable
 pub mod Types
+pub mod ContainerTable
 pub mod Containers
+pub mod ValueTable
 pub mod Values
 pub mod States
 pub mod Noted

@@ -28,7 +28,11 @@ values_in lines = filter_map value_at (placed lines)
 abbrev pub values_of : List EventLine → ℕ → List Entity
 values_of lines kind = map (λ v. v.entity) (filter (λ v. v.kind == kind) (values_in lines))
 
--- the name of the value that a text finds, else the text itself
+-- the name of the entity that a text finds, else the text itself
+abbrev pub text_among : List Entity → List ℕ → List ℕ
+text_among entities text = option_map_or (λ e. e.name)
+    (option_and_then (slice_get entities) (place_of entities text)) text
+
+-- the text of a value of a state type
 abbrev pub value_text : List EventLine → ℕ → List ℕ → List ℕ
-value_text lines kind text = option_map_or (λ e. e.name)
-    (option_and_then (slice_get (values_of lines kind)) (place_of (values_of lines kind) text)) text
+value_text lines kind text = text_among (values_of lines kind) text

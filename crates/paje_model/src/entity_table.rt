@@ -47,6 +47,7 @@ fn note(
 
 impl EntityTable {
     ghost use Rattle.paje_model.specs.Found.{has_alias, place_of};
+    ghost use Rattle.paje_model.specs.Values.{text_among};
     ghost use Rattle.paje_model.specs.EntityTable.{IsNamed, entities_in};
 
     /// Nothing is declared. It takes no memory.
@@ -99,6 +100,20 @@ impl EntityTable {
         match self.by_alias.get_index(place) {
             Some((_, declaration)) => Some(declaration.name.as_bytes()),
             None => None,
+        }
+    }
+
+    /// The name of the entity that a text finds, else the text itself.
+    pub fn text<'a>(&'a self, text: &'a [u8]) -> &'a [u8]
+        requires { IsNamed self.now }
+        ensures { result.now ≡ text_among (entities_in self.now) text.now }
+    {
+        match self.place(text) {
+            Some(place) => match self.name(place) {
+                Some(name) => name,
+                None => text,
+            },
+            None => text,
         }
     }
 

@@ -1,14 +1,18 @@
 //! What the event lines of a trace do: the entities that they declare, their tracks and call stacks.
 #![tactic(auto)]
 
+mod container_table;
 mod effect;
 mod entity_table;
 mod examples;
 mod function_table;
 mod model_fault;
+mod open_track;
 mod reason_examples;
+mod track_table;
 mod type_sort;
 mod type_table;
+mod value_table;
 mod what;
 
 pub use effect::Effect;

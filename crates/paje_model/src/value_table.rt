@@ -1,0 +1,76 @@
+//! The declared values of the state types of a trace.
+ghost use Rattle.std.specs.Prelude.{◌≡◌, ◌<◌, ◌^◌, ◌+◌, [], ◌∷◌, ◌++◌, length, find, slice_set, None, OnOk};
+ghost use Rattle.std.specs.Prelude.{IfSome};
+ghost use Rattle.std.specs.Option.{option_map, option_and_then, option_copied};
+ghost use Rattle.paje_model.specs.Found.{has_alias};
+ghost use Rattle.paje_model.specs.Values.{text_among};
+
+use crate::entity_table::EntityTable;
+use std::alloc::Global;
+use trace_base::Memory;
+
+/// The values of each state type, in order.
+#[derive(Drop)]
+pub struct ValueTable {
+    alloc: Global,
+    of_kinds: Vec<EntityTable>,
+}
+
+impl ValueTable {
+    ghost use Rattle.paje_model.specs.ValueTable.{AreNamed, values_at, values_kept};
+
+    /// No values, of no state types. It takes no memory.
+    pub fn new(alloc: Global) -> ValueTable
+        ensures values { values_kept result ≡ [] }
+        ensures named { AreNamed result }
+    {
+        ValueTable {
+            alloc,
+            of_kinds: Vec::new(alloc),
+        }
+    }
+
+    /// One state type more, without values.
+    pub fn add_kind(&mut self) -> Result<(), Memory>
+        requires { AreNamed self.old }
+        ensures values { OnOk result (values_kept self.new ≡ values_kept self.old ++ [] ∷ []) }
+        ensures named { OnOk result (AreNamed self.new) }
+    {
+        self.of_kinds.push(EntityTable::new(self.alloc))?;
+        Ok(())
+    }
+
+    /// The line of the value of a state type that has the alias.
+    pub fn line(&self, kind: usize, alias: &[u8]) -> Option<u32>
+        ensures { result ≡ option_map (λ e. e.line) (find (has_alias alias.now) (values_at self.now kind)) }
+    {
+        match self.of_kinds.get(kind) {
+            Some(values) => values.line(alias),
+            None => None,
+        }
+    }
+
+    /// The name of the value of a state type that a text finds, else the text itself.
+    pub fn text<'a>(&'a self, kind: usize, text: &'a [u8]) -> &'a [u8]
+        requires { AreNamed self.now }
+        ensures { result.now ≡ text_among (values_at self.now kind) text.now }
+    {
+        match self.of_kinds.get(kind) {
+            Some(values) => values.text(text),
+            None => text,
+        }
+    }
+
+    /// Adds a value of a state type behind its others. After `Memory` the table may only be dropped.
+    pub fn add(&mut self, kind: usize, alias: &[u8], name: &[u8], line: u32) -> Result<(), Memory>
+        requires kind { kind < length (values_kept self.old) }
+        requires named { AreNamed self.old }
+        requires new { find (has_alias alias.now) (values_at self.old kind) ≡ None }
+        requires room { length (values_at self.old kind) < 2 ^ 32 }
+        ensures values { OnOk result (values_kept self.new ≡ slice_set (values_kept self.old) kind
+            (values_at self.old kind ++ record { alias = alias.now; name = name.now; line = line } ∷ [])) }
+        ensures named { OnOk result (AreNamed self.new) }
+    {
+        self.of_kinds[kind].add(alias, name, line)
+    }
+}
