@@ -8,7 +8,7 @@ use Rattle.paje_model.specs.declared.track_table.Pair.{Pair}
 use Rattle.paje_model.specs.States.{is_same}
 use Rattle.paje_model.specs.TrackTable.{track_of}
 use Rattle.paje_model.proofs.Places.{position-map}
-use Rattle.paje_model.proofs.Entities.{missed}
+use Rattle.paje_model.proofs.DeclaredEntities.{missed}
 
 abbrev same_pair : Pair → Pair → Bool
 same_pair p q = (p.container == q.container) && (p.kind == q.kind)

@@ -8,6 +8,7 @@ pub mod ContainerTable
 pub mod Containers
 pub mod ValueTable
 pub mod Values
+pub mod StandsFor
 pub mod States
 pub mod Noted
 pub mod Reasons

@@ -1,19 +1,20 @@
 -- What a table of types stands for, and what one more does to it.
-use Rattle.std.specs.Prelude.{◌≡◌, [], ◌∷◌, ◌++◌, is_some, if◌then◌else◌}
+use Rattle.std.specs.Prelude.{◌≡◌, map, List, [], ◌∷◌, ◌++◌, is_some, if◌then◌else◌}
 use Rattle.paje_model.specs.declared.type_sort.TypeSort.{TypeSort}
-use Rattle.paje_model.specs.declared.type_sort.TypeSort.TheVariants as sorts
 use Rattle.paje_model.specs.declared.type_table.TypeTable.{TypeTable}
+use Rattle.paje_model.specs.EventLine.{EventLine}
 use Rattle.paje_model.specs.EntityTable.{IsNamed, entities_in}
-use Rattle.paje_model.specs.Found.{Entity, root}
-use Rattle.paje_model.specs.Types.{state_number, link_number}
+use Rattle.paje_model.specs.Found.{Entity}
+use Rattle.paje_model.specs.Types.{state_number, link_number, type_entities, types_in, kinds_in}
+use Rattle.paje_model.specs.Types.{link_kinds_in}
 
--- it has the root type alone
-pub record IsRootType (t : TypeTable) : Type 0 where
-  pub entities : entities_in t.entities ≡ root ∷ []
+-- it has the types that the lines declare
+pub record AreTypes (lines : List EventLine) (t : TypeTable) : Type 0 where
+  pub entities : entities_in t.entities ≡ type_entities lines
   pub named : IsNamed t.entities
-  pub sorts : t.sorts.items ≡ sorts.Container ∷ []
-  pub kinds : t.kinds.items ≡ []
-  pub link_kinds : t.link_kinds.items ≡ []
+  pub sorts : t.sorts.items ≡ map (λ declared. declared.sort) (types_in lines)
+  pub kinds : t.kinds.items ≡ kinds_in lines
+  pub link_kinds : t.link_kinds.items ≡ link_kinds_in lines
 
 -- a type goes last, and its name behind those of its sort
 pub record TakesType (old new : TypeTable) (e : Entity) (sort : TypeSort) : Type 0 where

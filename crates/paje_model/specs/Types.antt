@@ -44,9 +44,12 @@ abbrev pub type_at : Placed → Option DeclaredType
 type_at p = option_map (λ sort. record { entity = rooted_entity p.line; sort = sort })
     (sort_of p.before p.line.event)
 
+abbrev pub root_type : DeclaredType
+root_type = record { entity = root; sort = sorts.Container }
+
 -- the types, in order; the root type, of containers, comes first
 abbrev pub types_in : List EventLine → List DeclaredType
-types_in lines = record { entity = root; sort = sorts.Container } ∷ filter_map type_at (placed lines)
+types_in lines = root_type ∷ filter_map type_at (placed lines)
 
 abbrev pub type_entities : List EventLine → List Entity
 type_entities lines = map (λ t. t.entity) (types_in lines)

@@ -3,6 +3,7 @@
 
 mod container_table;
 mod effect;
+mod entities;
 mod entity_table;
 mod examples;
 mod function_table;
@@ -16,6 +17,7 @@ mod value_table;
 mod what;
 
 pub use effect::Effect;
+pub use entities::Entities;
 pub use examples::{
     found_examples, link_type_example, message_example, open_call_example, refused_examples,
     stack_example, track_example, two_calls_example, value_examples,

@@ -60,11 +60,11 @@ pub struct TypeTable {
 
 impl TypeTable {
     ghost use Rattle.paje_model.specs.EntityTable.{IsNamed, entities_in};
-    ghost use Rattle.paje_model.specs.TypeTable.{IsRootType, TakesType};
+    ghost use Rattle.paje_model.specs.TypeTable.{AreTypes, TakesType};
 
     /// The root type alone.
     pub fn new(alloc: Global) -> Result<TypeTable, Memory>
-        ensures { IfOk result IsRootType }
+        ensures { IfOk result (AreTypes []) }
     {
         let mut entities = EntityTable::new(alloc);
         entities.add(b"0", b"0", 0)?;

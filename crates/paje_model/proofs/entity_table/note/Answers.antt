@@ -1,5 +1,5 @@
 use Rattle.std.proofs.Common.{sym}
-use Rattle.paje_model.proofs.Entities.{noted_new, noted_old}
+use Rattle.paje_model.proofs.DeclaredEntities.{noted_new, noted_old}
 use Rattle.paje_model.proofs.entity_table.note.Goals as goal
 
 pub returns-in-Some : goal.returns-in-Some

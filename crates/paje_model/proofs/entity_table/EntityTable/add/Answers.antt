@@ -3,7 +3,7 @@ use Rattle.std.specs.Option.{option_or}
 use Rattle.std.specs.Str.{bytes_eq}
 use Rattle.paje_model.specs.EntityTable.{entities_in, entity_at}
 use Rattle.paje_model.specs.Noted.{place_noted}
-use Rattle.paje_model.proofs.Entities.{entities-more, length-entities, named-more}
+use Rattle.paje_model.proofs.DeclaredEntities.{entities-more, length-entities, named-more}
 use Rattle.paje_model.proofs.entity_table.EntityTable.add.Goals as goal
 
 pub returns-clause-entities : goal.returns-clause-entities

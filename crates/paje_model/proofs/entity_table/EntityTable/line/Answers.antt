@@ -1,6 +1,6 @@
 use Rattle.std.proofs.Common.{◌∙◌, ap}
 use Rattle.std.specs.Option.{option_map}
-use Rattle.paje_model.proofs.Entities.{alias-line}
+use Rattle.paje_model.proofs.DeclaredEntities.{alias-line}
 use Rattle.paje_model.proofs.entity_table.EntityTable.line.Goals as goal
 
 pub returns-in-Some : goal.returns-in-Some

@@ -2,7 +2,7 @@ use Rattle.std.proofs.Common.{◌∙◌, ap, position}
 use Rattle.std.specs.Option.{option_or}
 use Rattle.paje_model.specs.Found.{has_name}
 use Rattle.paje_model.specs.EntityTable.{entities_in}
-use Rattle.paje_model.proofs.Entities.{alias-place}
+use Rattle.paje_model.proofs.DeclaredEntities.{alias-place}
 use Rattle.paje_model.proofs.entity_table.EntityTable.place.Goals as goal
 
 pub returns-in-Some : goal.returns-in-Some

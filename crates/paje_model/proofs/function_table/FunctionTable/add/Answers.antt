@@ -1,4 +1,4 @@
-use Rattle.paje_model.proofs.Entities.{texts-more}
+use Rattle.paje_model.proofs.DeclaredEntities.{texts-more}
 use Rattle.paje_model.proofs.function_table.FunctionTable.add.Goals as goal
 
 pub returns : goal.returns

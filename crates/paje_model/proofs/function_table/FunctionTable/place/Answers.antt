@@ -1,5 +1,5 @@
 use Rattle.std.proofs.Common.{◌∙◌}
-use Rattle.paje_model.proofs.Entities.{text-place}
+use Rattle.paje_model.proofs.DeclaredEntities.{text-place}
 use Rattle.paje_model.proofs.function_table.FunctionTable.place.Goals as goal
 
 pub returns : goal.returns
