@@ -16,7 +16,7 @@ use Rattle.node_key.specs.declared.item.Item.{Item}
 use Rattle.node_key.specs.declared.limits.TheConstants.{MAX_HEIGHT, MAX_KIDS}
 use Rattle.node_key.proofs.Kids.{FitBetween-le}
 use Rattle.call_tree.specs.Bound.{bound}
-use Rattle.call_tree.specs.Passing.{CanClose, closed_item, MayCome, Steps}
+use Rattle.call_tree.specs.Passing.{CanClose, closed_item, MayCome, PassesEvent}
 use Rattle.call_tree.specs.Trees.{tree}
 use Rattle.call_tree.specs.declared.pass.Open.{Open}
 use Rattle.call_tree.proofs.Fits.{Low, Low-nil, Low-weaker, Low-bound, height_above-low, eights}
@@ -248,7 +248,7 @@ Passing-may_come s around innermost (Leave u) rest legal p =
 
 pub Passing-step : (s : TrackStream) (around around' : List Open) (innermost now : Open) (e : Event)
     (rest : List Event)
-    → Passing s (reverse around) innermost (e ∷ rest) → Steps around innermost e around' now
+    → Passing s (reverse around) innermost (e ∷ rest) → PassesEvent around innermost e around' now
     → Passing s (reverse around') now rest
 Passing-step s around around' innermost now (Enter f t) rest p steps =
     let turned : reverse around' ≡ innermost ∷ reverse around = ap reverse steps.0 ∙ reverse-append around

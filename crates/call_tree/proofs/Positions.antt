@@ -21,7 +21,7 @@ use Rattle.call_tree.specs.Bound.{bound}
 use Rattle.call_tree.specs.Calls.{Call, is_balanced, events_between, leave_of, enters_at, call_at, lies_in}
 use Rattle.call_tree.specs.Calls.{calls_within}
 use Rattle.call_tree.specs.Calls.{outer_calls, inner_calls}
-use Rattle.call_tree.specs.Trees.{function_of, time_at, call_item}
+use Rattle.call_tree.specs.Trees.{function_entered, time_at, call_item}
 use Rattle.call_tree.proofs.Forest.{Forest, none, call, flat, items_of, enters, leaves, enters-is, leaves-is}
 use Rattle.call_tree.proofs.Forest.{enters-append, leaves-append}
 use Rattle.call_tree.proofs.Forest.{leaves-flat, front_of_flat}
@@ -422,13 +422,14 @@ items-flat (call f t A u B) (suc n) es pre post p e k h =
     (omega (arith, number, h)) in
     let begins = time_here es pre (flat A ++ Leave u ∷ (flat B ++ post)) (Enter f t) p behind k in
     let ends = time_here es (pre ++ Enter f t ∷ flat A) (flat B ++ post) (Leave u) q at_leave place_leave in
-    let func = ap function_of (slice_here es pre (flat A ++ Leave u ∷ (flat B ++ post)) (Enter f t) p behind
+    let func = ap function_entered (slice_here es pre (flat A ++ Leave u ∷ (flat B ++ post)) (Enter f t) p
+    behind
     k) in
     let more = items-flat B (suc n) es ((pre ++ Enter f t ∷ flat A) ++ Leave u ∷ []) post (q + 1) at_b place_b
     (omega (arith, number, h)) in
     let head : call_item (suc n) es (record { enter = p; leave = q }) ≡
     record { at = t; tree = node f t u (bound (items_of A)) } =
-    one_item (function_of (slice_get es p)) f (time_at es p) t (time_at es q) u
+    one_item (function_entered (slice_get es p)) f (time_at es p) t (time_at es q) u
     (map (call_item n es) (inner_calls es (record { enter = p; leave = q }))) (items_of A) func begins
     ends items in
     ap (λ (i : Item). i ∷ map (call_item (suc n) es) (tops (q + 1) B)) head

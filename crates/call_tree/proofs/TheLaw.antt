@@ -9,7 +9,7 @@ use Rattle.node_key.specs.Items.{node}
 use Rattle.call_tree.specs.Bound.{bound}
 use Rattle.call_tree.specs.Events.{events}
 use Rattle.call_tree.specs.Trees.{tree}
-use Rattle.call_tree.specs.Laws.{moved, since, TreesKeepEvents, stream_of, TreesGiveStreams}
+use Rattle.call_tree.specs.Laws.{moved, since, TreesKeepEvents, stream_from, TreesGiveStreams}
 use Rattle.call_tree.specs.Laws.{TreesTellStreams}
 use Rattle.call_tree.proofs.Forest.{Forest, flat, items_of}
 use Rattle.call_tree.proofs.Parsing.{Sound-le, legal_calls, parse}
@@ -61,7 +61,7 @@ tree-from_start v dur es F e f n =
 
 pub trees_give_streams : TreesGiveStreams
 trees_give_streams s start legal h =
-    let u : TrackStream = stream_of (tree s) start in
+    let u : TrackStream = stream_from (tree s) start in
     let es : u.events ≡ map (moved u.start) (from_start s) = moved_on (tree s) start in
     let ends : u.end ≡ (tree s).dur + u.start = omega arith in (
       IsLegal-moved s u (tree s).dur (from_start s) legal (events-from_start s legal) (end-start s legal) es

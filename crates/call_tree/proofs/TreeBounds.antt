@@ -14,7 +14,7 @@ use Rattle.node_key.specs.declared.item.Item.{Item}
 use Rattle.node_key.specs.declared.limits.TheConstants.{MAX_HEIGHT, MAX_KIDS}
 use Rattle.node_key.proofs.Kids.{count-kids_of, length-branches_from, FitBetween-le}
 use Rattle.call_tree.specs.Bound.{group, grouped, bound, start_of, stop_of}
-use Rattle.call_tree.specs.Bounds.{KidsWithin, IsWithinLimits, TreesAreBounded}
+use Rattle.call_tree.specs.Bounds.{KidsWithin, IsWithinBounds, TreesAreBounded}
 use Rattle.call_tree.specs.Trees.{tree}
 use Rattle.call_tree.proofs.Chunks.{grouped-some, grouped-none, length-grouped, by_chunks, bound-few}
 use Rattle.call_tree.proofs.Chunks.{bound-more}
@@ -76,7 +76,7 @@ low_items (call f t A u B) d deep few =
 -- what lies in the items is within the limits
 abbrev ItemsWithin : List Item → Type 0
 ItemsWithin [] = Unit {0}
-ItemsWithin (i ∷ is) = IsWithinLimits i.tree × ItemsWithin is
+ItemsWithin (i ∷ is) = IsWithinBounds i.tree × ItemsWithin is
 
 within_parts : (is js : List Item) → ItemsWithin (is ++ js) → ItemsWithin is × ItemsWithin js
 within_parts [] js w = (tt, w)
@@ -91,7 +91,7 @@ kids_within start end (i ∷ is) fit h w =
 
 node_within : (func start end : ℕ) (is : List Item) → FitBetween start end is → end ≤ MAX_TIME → length is ≤ 8
     → ItemsWithin is
-    → IsWithinLimits (node func start end is)
+    → IsWithinBounds (node func start end is)
 node_within func start end is fit h few w = (
   omega (arith, count-kids_of (branches_from start is), length-branches_from start is, few),
   omega arith,
@@ -109,7 +109,7 @@ group_fit low high i is fit =
 
 group_within : (low high : ℕ) (c : List Item) → 0 < length c → FitBetween low high c → high ≤ MAX_TIME
     → length c ≤ 8 → ItemsWithin c
-    → IsWithinLimits (group c).tree
+    → IsWithinBounds (group c).tree
 group_within low high [] some fit h few w = absurd (omega arith)
 group_within low high (i ∷ []) some fit h few w = w.0
 group_within low high (i ∷ j ∷ is) some fit h few w =
@@ -247,7 +247,7 @@ trees_are_bounded s legal =
     (items_within F s.start s.end calls.sound legal.in_time) in
     let high = height_above-low s.start 0 2048 (bound (items_of F)) (omega arith)
     (Low-weaker 0 (0 + 1) 2047 2048 (bound (items_of F)) (λ h q. omega arith) bounded) in (
-      subst IsWithinLimits (sym whole)
+      subst IsWithinBounds (sym whole)
           (node_within 0 s.start s.end (bound (items_of F)) inner.0 legal.in_time
           (length-bound-le (length (items_of F)) (items_of F) (omega arith)) inner.1),
       omega (arith, ap height whole, high),

@@ -14,12 +14,12 @@ KidsWithin (kid gap func dur inner more) =
     (gap ≤ MAX_TIME) × (dur ≤ MAX_TIME) × (count inner ≤ MAX_KIDS) × KidsWithin inner × KidsWithin more
 
 -- the same of the tree itself
-abbrev pub IsWithinLimits : Tree → Type 0
-IsWithinLimits t = (count t.kids ≤ MAX_KIDS) × (t.dur ≤ MAX_TIME) × KidsWithin t.kids
+abbrev pub IsWithinBounds : Tree → Type 0
+IsWithinBounds t = (count t.kids ≤ MAX_KIDS) × (t.dur ≤ MAX_TIME) × KidsWithin t.kids
 
 -- the tree of a legal stream is within these limits, is at most 2,048 high, and has no more nodes, counted
 -- with repeats, than the stream has events, or one
 abbrev pub TreesAreBounded : Type 0
 TreesAreBounded =
     (s : TrackStream) → IsLegal s
-    → IsWithinLimits (tree s) × (height (tree s) ≤ MAX_HEIGHT) × (nodes (tree s) ≤ max 1 (length s.events))
+    → IsWithinBounds (tree s) × (height (tree s) ≤ MAX_HEIGHT) × (nodes (tree s) ≤ max 1 (length s.events))

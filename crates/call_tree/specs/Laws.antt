@@ -24,14 +24,14 @@ abbrev pub TreesKeepEvents : Type 0
 TreesKeepEvents = (s : TrackStream) → IsLegal s → events (tree s) s.start ≡ s.events
 
 -- the stream that a tree is from a start on
-abbrev pub stream_of : Tree → ℕ → TrackStream
-stream_of t start = record { start = start; end = start + t.dur; events = events t start }
+abbrev pub stream_from : Tree → ℕ → TrackStream
+stream_from t start = record { start = start; end = start + t.dur; events = events t start }
 
 -- the tree of a legal stream and any start within the greatest time give a legal stream, whose tree it is
 abbrev pub TreesGiveStreams : Type 0
 TreesGiveStreams =
     (s : TrackStream) (start : ℕ) → IsLegal s → start + (tree s).dur ≤ MAX_TIME
-    → IsLegal (stream_of (tree s) start) × (tree (stream_of (tree s) start) ≡ tree s)
+    → IsLegal (stream_from (tree s) start) × (tree (stream_from (tree s) start) ≡ tree s)
 
 -- two streams last as long, and have the same events from their starts on
 abbrev pub SameFromStart : TrackStream → TrackStream → Type 0

@@ -31,10 +31,10 @@ MayCome (Enter f t) around innermost = Unit {0}
 MayCome (Leave t) around innermost = (0 < length around) × CanClose innermost t
 
 -- the calls that are open after the event, of which the innermost stands by itself, and what lies in them
-abbrev pub Steps : List Open → Open → Event → List Open → Open → Type 0
-Steps around innermost (Enter f t) around' now =
+abbrev pub PassesEvent : List Open → Open → Event → List Open → Open → Type 0
+PassesEvent around innermost (Enter f t) around' now =
     (around' ≡ around ++ innermost ∷ []) × (now ≡ record { func = f; start = t; items = [] })
-Steps around innermost (Leave t) around' now =
+PassesEvent around innermost (Leave t) around' now =
     (outer : Open) × (around ≡ around' ++ outer ∷ [])
     × (now ≡ record {
       func = outer.func;

@@ -12,9 +12,9 @@ use Rattle.call_tree.specs.Bound.{bound}
 use Rattle.call_tree.specs.Calls.{Call, inner_calls, outermost_calls}
 
 -- the function that an event enters, or 0
-abbrev pub function_of : Option Event → ℕ
-function_of (Some (Enter f t)) = f
-function_of _ = 0
+abbrev pub function_entered : Option Event → ℕ
+function_entered (Some (Enter f t)) = f
+function_entered _ = 0
 
 -- when an event comes, in nanoseconds
 abbrev pub time_at : List Event → ℕ → ℕ
@@ -25,12 +25,12 @@ time_at es i = slice_index (map time_of es) i
 abbrev pub call_item : ℕ → List Event → Call → Item
 call_item zero es c = record {
   at = time_at es c.enter;
-  tree = node (function_of (slice_get es c.enter))
+  tree = node (function_entered (slice_get es c.enter))
       (time_at es c.enter) (time_at es c.leave) [];
 }
 call_item (suc n) es c = record {
   at = time_at es c.enter;
-  tree = node (function_of (slice_get es c.enter)) (time_at es c.enter) (time_at es c.leave)
+  tree = node (function_entered (slice_get es c.enter)) (time_at es c.enter) (time_at es c.leave)
       (bound (map (call_item n es) (inner_calls es c)));
 }
 

@@ -1,5 +1,5 @@
 ghost use Rattle.std.specs.Prelude.{◌≡◌, [], ◌∷◌, ◌++◌, IfOk};
-ghost use Rattle.call_tree.specs.Passing.{CanClose, MayCome, Steps, closed_item};
+ghost use Rattle.call_tree.specs.Passing.{CanClose, MayCome, PassesEvent, closed_item};
 ghost use Rattle.call_tree.specs.Trees.{tree};
 ghost use Rattle.trace_base.specs.Stream.{IsLegal};
 
@@ -28,7 +28,7 @@ fn step(
     event: Event,
 ) -> Result<Open, Memory>
     requires { MayCome event around.old.items innermost }
-    ensures { IfOk result (λ now. Steps around.old.items innermost event around.new.items now) }
+    ensures { IfOk result (λ now. PassesEvent around.old.items innermost event around.new.items now) }
 {
     match event {
         Event::Enter(func, start) => {

@@ -9,7 +9,7 @@ use Rattle.std.proofs.lemmas.List.Elements.{filter_agree}
 use Rattle.trace_base.specs.declared.profile.Row.{Row}
 use Rattle.trace_base.specs.declared.profile.Profile.{Profile}
 use Rattle.profile_math.specs.Merging.{merged}
-use Rattle.profile_math.specs.Sum.{row_total, rows_for, functions_of, by_function, row_place, row_plus}
+use Rattle.profile_math.specs.Sum.{row_total, rows_for, functions_in, by_function, row_place, row_plus}
 use Rattle.profile_math.specs.Sum.{sum_of, RisesByFunction}
 use Rattle.profile_math.proofs.Keyed.{at, sums, Totals, climbs-from, sorted-from}
 use Rattle.profile_math.proofs.Keyed.{sums-climbs}
@@ -42,7 +42,7 @@ pub by_function-is : (rows : List Row) → by_function rows ≡ sums nat_cmp fun
 unfolding by_function
 by_function-is rows = map_agree (λ f. row_total f (rows_for f rows))
     (λ f. row_total f (at nat_cmp func_of f rows))
-    (λ f. ap (row_total f) (rows_for-at f rows)) (functions_of rows)
+    (λ f. ap (row_total f) (rows_for-at f rows)) (functions_in rows)
 
 pub by_function-rises : (rows : List Row) → RisesByFunction (by_function rows)
 by_function-rises rows = rw by_function-is (sorted-from nat_cmp func_of (sums nat_cmp func_of row_total rows)

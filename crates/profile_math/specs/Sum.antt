@@ -21,12 +21,12 @@ abbrev pub rows_for : ℕ → List Row → List Row
 rows_for f rows = filter (λ r. r.func == f) rows
 
 -- the functions that have a row, rising
-abbrev pub functions_of : List Row → List ℕ
-functions_of rows = in_order nat_cmp (map (λ r. r.func) rows)
+abbrev pub functions_in : List Row → List ℕ
+functions_in rows = in_order nat_cmp (map (λ r. r.func) rows)
 
 -- a row for each function that has one, rising by function, with what all its rows have together
 unfoldable pub by_function : List Row → List Row
-by_function rows = map (λ f. row_total f (rows_for f rows)) (functions_of rows)
+by_function rows = map (λ f. row_total f (rows_for f rows)) (functions_in rows)
 
 -- which of two rows stands first: that of the lower function
 abbrev pub row_place : Row → Row → Ordering

@@ -4,7 +4,7 @@ use Rattle.std.proofs.lemmas.List.{drop_all}
 use Rattle.trace_base.specs.declared.stream.Event.{Event}
 use Rattle.trace_base.specs.declared.stream.Event.TheVariants.{Enter}
 use Rattle.node_key.specs.declared.item.Item.{Item}
-use Rattle.call_tree.specs.Passing.{MayCome, Steps}
+use Rattle.call_tree.specs.Passing.{MayCome, PassesEvent}
 use Rattle.call_tree.specs.declared.pass.Open.{Open}
 use Rattle.call_tree.proofs.Passing.{Passing, Passing-start, Passing-may_come, Passing-step, Passing-end}
 use Rattle.call_tree.proofs.Passing.{next_event}
@@ -42,7 +42,7 @@ loop-event-preserved c =
     let here = subst (λ (l : List Event). Passing c.args.s.now (reverse c.loop-event.around.items)
     c.loop-event.innermost l)
     (next_event es i (Enter 0 0) within) c.loop-event.invariant in
-    let steps = subst (λ (l : List Event). Steps c.loop-event.around.items c.loop-event.innermost
+    let steps = subst (λ (l : List Event). PassesEvent c.loop-event.around.items c.loop-event.innermost
     (get_or l i (Enter 0 0)) c.step.new.around.items c.in_ok-innermost.innermost)
     c.as_slice-event-items.ensures c.in_ok-innermost.ensures in
     Passing-step c.args.s.now c.loop-event.around.items c.step.new.around.items c.loop-event.innermost
