@@ -1,0 +1,20 @@
+use Rattle.std.proofs.Common.{◌≡◌, sym, ◌∙◌, ℕ, Some, None, slice_get}
+use Rattle.shard_core.proofs.Listed.{here, Here, count_here}
+use Rattle.shard_core.proofs.Places.{apart_seen}
+use Rattle.shard_core.proofs.nodes.Nodes.count.Goals as goal
+
+pub unreachable-requires : goal.unreachable-requires
+unreachable-requires c =
+    let h = here c.self.inside.keys.keys c.self.inside.counts.entries c.args.self.now c.args.place
+    c.self.view_is c.self.invariant.0 c.requires in
+    let none : None ≡ Some h.pair = c.in-None.ensures.entry ∙ h.pair_at in cc
+
+pub returns-clause-apart : goal.returns-clause-apart
+returns-clause-apart c = apart_seen c.self.inside.keys.keys c.self.inside.counts.entries c.args.self.now
+    c.self.view_is c.self.invariant.0 c.self.invariant.1
+
+pub returns-clause-value : goal.returns-clause-value
+returns-clause-value c = count_here c.self.inside.keys.keys c.self.inside.counts.entries c.args.self.now c.args.place _
+    (here c.self.inside.keys.keys c.self.inside.counts.entries c.args.self.now c.args.place
+    c.self.view_is c.self.invariant.0 c.requires)
+    c.in-Some.ensures.entry

@@ -1,0 +1,5 @@
+pub mod Digest
+pub mod Entering
+pub mod Listed
+pub mod Room
+pub mod SameKey

@@ -1,0 +1,10 @@
+//! A room of the store as a value: the nodes that it keeps, each under one number, with counts.
+#![tactic(auto)]
+
+mod answers;
+mod hashed_key;
+mod limits;
+mod nodes;
+
+pub use answers::{Dropped, Interned, ShardFault};
+pub use limits::MAX_COUNT;
