@@ -1,2 +1,5 @@
+pub mod Answering
 pub mod Listed
 pub mod Places
+pub mod RoomMaps
+pub mod Soundness

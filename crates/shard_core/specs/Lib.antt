@@ -1,5 +1,6 @@
 pub mod Digest
 pub mod Entering
+pub mod Interning
 pub mod Listed
 pub mod Room
 pub mod SameKey

@@ -1,9 +1,11 @@
 -- A room of the store: nodes by their numbers, each with its key and its count, and where numbers go on.
-use Rattle.std.specs.Prelude.{◌≡◌, ℕ, ◌+◌, ◌*◌, ◌/◌, ◌%◌, ◌<◌, ◌≤◌, Option, Some}
+use Rattle.std.specs.Prelude.{◌≡◌, ℕ, ◌+◌, ◌*◌, ◌/◌, ◌%◌, ◌<◌, ◌≤◌, List, Option, Some, refl}
+use Rattle.std.specs.Coded.{Coded, code_by, coded×, coded_ℕ}
 use Rattle.std.specs.FinMap as map
 use Rattle.std.specs.Ordering.{nat_cmp}
 use Rattle.node_key.specs.Rooms.{room}
 use Rattle.node_key.specs.declared.key.NodeKey.{NodeKey}
+use Rattle.node_key.specs.contracts.key.NodeKey as node_key
 use Rattle.node_key.specs.declared.limits.TheConstants.{MAX_NUMBERS, STORE_ROOMS}
 use Rattle.shard_core.specs.declared.limits.TheConstants.{MAX_COUNT}
 
@@ -69,3 +71,18 @@ pub record IsSound (r : Room) : Type 0 where
   pub next : r.next ≤ MAX_NUMBERS
   pub placed : (n : ℕ) (k : NodeKey) (c : ℕ) → Keeps r n k c → IsPlaced r n k c
   pub keys_differ : (m n : ℕ) (k : NodeKey) (c d : ℕ) → Keeps r m k c → Keeps r n k d → m ≡ n
+
+-- rooms are stored as the tuple of their fields
+abbrev pub stored_code : Coded Stored
+stored_code =
+    code_by (NodeKey × ℕ) (coded× node_key.the_row.coded coded_ℕ) (λ s. (s.key, s.count))
+    (λ p. record { key = p.0; count = p.1 }) (λ _. refl)
+
+abbrev pub room_code : Coded Room
+room_code =
+    code_by (ℕ × (ℕ × map.FinMap nat_cmp Stored)) (coded× coded_ℕ (coded× coded_ℕ (map.code coded_ℕ stored_code)))
+    (λ r. (r.room, (r.next, r.nodes))) (λ p. record { room = p.0; next = p.1.0; nodes = p.1.1 }) (λ _. refl)
+
+-- the room that these nodes are, in whatever order
+abbrev pub room_of : ℕ → ℕ → List (ℕ × Stored) → Room
+room_of room next es = record { room = room; next = next; nodes = map.from_entries es }

@@ -5,6 +5,8 @@ mod answers;
 mod hashed_key;
 mod limits;
 mod nodes;
+mod shard;
 
 pub use answers::{Dropped, Interned, ShardFault};
 pub use limits::MAX_COUNT;
+pub use shard::Shard;
