@@ -1,6 +1,8 @@
 -- What each step on the tables is to the room.
-use Rattle.std.proofs.Common.{◌≡◌, ◌≢◌, ◌⊎◌, inl, inr, ℕ, ◌+◌, ◌-◌, ◌*◌, ◌<◌, ◌≤◌, List, [], ◌∷◌, ◌++◌, slice_get}
-use Rattle.std.proofs.Common.{Option, Some, None, refl, sym, ap, ◌∙◌, subst, arith, nat_eq, is_some, unwrap_or}
+use Rattle.std.proofs.Common.{◌≡◌, ◌≢◌, ◌⊎◌, inl, inr, ℕ, ◌+◌, ◌-◌, ◌*◌, ◌<◌, ◌≤◌, List, [], ◌∷◌, ◌++◌}
+use Rattle.std.proofs.Common.{slice_get}
+use Rattle.std.proofs.Common.{Option, Some, None, refl, sym, ap, ◌∙◌, subst, arith, nat_eq, is_some}
+use Rattle.std.proofs.Common.{unwrap_or}
 use Rattle.std.proofs.Common.{IfSome, IfNone, Result, Ok, Err}
 use Rattle.std.specs.FinMap as map
 use Rattle.std.specs.List.{IsDistinct, swap_remove}
@@ -20,7 +22,8 @@ use Rattle.shard_core.specs.declared.answers.ShardFault.TheVariants.{Memory, Spe
 use Rattle.shard_core.specs.declared.answers.Dropped.TheVariants.{Kept, Removed}
 use Rattle.shard_core.specs.Interning.{IsSpent, Interns, Drops}
 use Rattle.shard_core.specs.Listed.{LacksKey}
-use Rattle.shard_core.specs.Room.{Stored, Room, Keeps, IsThere, IsSound, node_at, room_of, with_node, with_new}
+use Rattle.shard_core.specs.Room.{Stored, Room, Keeps, IsThere, IsSound, node_at, room_of, with_node}
+use Rattle.shard_core.specs.Room.{with_new}
 use Rattle.shard_core.specs.Room.{without, next_number}
 use Rattle.shard_core.proofs.RoomMaps.{get_of, keeps_at, set_seen, take_seen, push_seen, absent_key}
 use Rattle.shard_core.proofs.Soundness.{IsSound-with_node, IsSound-with_new, IsSound-without}
@@ -71,20 +74,22 @@ raised room next es es' i n k c res sound apart at full more =
       | inl same ↦
           let f = full (omega (arith, same)) in (
             subst (λ (x : Result Interned ShardFault). Interns r k x (room_of room next es')) (sym f.0)
-            (subst (λ (l : Entries). Interns r k (Err (Spent MAX_COUNT)) (room_of room next l)) (sym f.1)
-            (inr (n, subst (λ (x : ℕ). Keeps r n k x) same keeps, refl), refl)),
+                (subst (λ (l : Entries). Interns r k (Err (Spent MAX_COUNT)) (room_of room next l)) (sym f.1)
+                (inr (n, subst (λ (x : ℕ). Keeps r n k x) same keeps, refl), refl)),
             subst (λ (l : Entries). IsSound (room_of room next l)) (sym f.1) sound,
           )
       | inr differs ↦
           let below : c < MAX_COUNT = omega (arith, differs, here.most) in
           let f = more below in
           let eq : room_of room next es' ≡ with_node r n k (c + 1) =
-              ap (λ (l : Entries). room_of room next l) f.1
-              ∙ ap (λ (m : map.FinMap nat_cmp Stored). let x : Room = record { room = room; next = next; nodes = m } in x)
-              (set_seen es i n (node k c) (node k (c + 1)) apart at) in (
+          ap (λ (l : Entries). room_of room next l) f.1
+          ∙ ap (λ (m : map.FinMap nat_cmp Stored). let x : Room =
+          record { room = room; next = next; nodes = m } in x)
+          (set_seen es i n (node k c) (node k (c + 1)) apart at) in (
             subst (λ (x : Result Interned ShardFault). Interns r k x (room_of room next es')) (sym f.0)
-            (c, keeps, below, eq),
-            subst IsSound (sym eq) (IsSound-with_node r n k c (c + 1) sound keeps (omega arith) (omega (arith, below))),
+                (c, keeps, below, eq),
+            subst IsSound (sym eq) (IsSound-with_node r n k c (c + 1) sound keeps (omega arith)
+                (omega (arith, below))),
           )
     ]
 
@@ -114,10 +119,11 @@ added room next es es' m k sound below here is lacks after =
     let r = room_of room next es in
     let absent = absent_key room next es k lacks in
     let eq : room_of room (next + 1) es' ≡ with_new r k =
-        ap (λ (l : Entries). room_of room (next + 1) l) after
-        ∙ ap (λ (x : map.FinMap nat_cmp Stored). let y : Room = record { room = room; next = next + 1; nodes = x } in y)
-        (push_seen es m (node k 1) (fresh room next es m sound is)
-        ∙ ap (λ (x : ℕ). map.insert (map.from_entries {R = nat_cmp} es) x (node k 1)) is) in (
+    ap (λ (l : Entries). room_of room (next + 1) l) after
+    ∙ ap (λ (x : map.FinMap nat_cmp Stored). let y : Room =
+    record { room = room; next = next + 1; nodes = x } in y)
+    (push_seen es m (node k 1) (fresh room next es m sound is)
+    ∙ ap (λ (x : ℕ). map.insert (map.from_entries {R = nat_cmp} es) x (node k 1)) is) in (
       (absent, below, is, eq),
       subst IsSound (sym eq) (IsSound-with_new r k sound absent below here),
     )
@@ -136,15 +142,16 @@ kept room next es es' i n s count sound apart at is above after =
     let r = room_of room next es in
     let same = told es i n s count at is in
     let keeps : Keeps r n s.key count = keeps_at room next es i n s apart at
-        ∙ ap (λ (x : ℕ). Some (node s.key x)) same in
+    ∙ ap (λ (x : ℕ). Some (node s.key x)) same in
     let here = sound.placed n s.key count keeps in
     let eq : room_of room next es' ≡ with_node r n s.key (count - 1) =
-        ap (λ (l : Entries). room_of room next l) after
-        ∙ ap (λ (m : map.FinMap nat_cmp Stored). let x : Room = record { room = room; next = next; nodes = m } in x)
-        (set_seen es i n s (node s.key (count - 1)) apart at) in (
+    ap (λ (l : Entries). room_of room next l) after
+    ∙ ap (λ (m : map.FinMap nat_cmp Stored). let x : Room = record { room = room; next = next; nodes = m }
+    in x)
+    (set_seen es i n s (node s.key (count - 1)) apart at) in (
       (s.key, count, keeps, above, eq),
       subst IsSound (sym eq) (IsSound-with_node r n s.key count (count - 1) sound keeps (omega (arith, above))
-      (omega (arith, here.most))),
+          (omega (arith, here.most))),
     )
 
 pub removed : (room next : ℕ) (es es' : Entries) (i n : ℕ) (s : Stored) (count : ℕ) (k : NodeKey)
@@ -160,9 +167,10 @@ removed room next es es' i n s count k sound apart at is low key after =
     let one : s.count ≡ 1 = omega (arith, same, low, here.least) in
     let keeps : Keeps r n k 1 = kept ∙ (λ j. Some (node (sym key j) (one j))) in
     let eq : room_of room next es' ≡ without r n =
-        ap (λ (l : Entries). room_of room next l) after
-        ∙ ap (λ (m : map.FinMap nat_cmp Stored). let x : Room = record { room = room; next = next; nodes = m } in x)
-        (take_seen es i n s apart at) in (
+    ap (λ (l : Entries). room_of room next l) after
+    ∙ ap (λ (m : map.FinMap nat_cmp Stored). let x : Room = record { room = room; next = next; nodes = m }
+    in x)
+    (take_seen es i n s apart at) in (
       (keeps, eq),
       subst IsSound (sym eq) (IsSound-without r n sound),
     )

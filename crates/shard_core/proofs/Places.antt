@@ -40,11 +40,12 @@ place_found ks es v n (Some i) is e at =
     let p = position-Some (nat_eq n) (keys_of es) i 0 (sym at) in
     let h = here ks es v i is e (omega (arith, p.0, length-keys_of es, length_seen ks es v is e)) in
     let number : get_or (keys_of es) i 0 ≡ h.pair.0 = get_or_from_slice_get (keys_of es) i h.pair.0 0
-        (slice_get-map (λ (x : ℕ × ℕ). x.0) es i ∙ ap (option_map (λ (x : ℕ × ℕ). x.0)) h.pair_at) in
-    let same : n ≡ h.pair.0 = eqb-true n h.pair.0 (ap (nat_eq n) (sym number) ∙ p.1) in
-    (record { key = h.key.key; count = h.pair.1 },
-    h.at ∙ ap (λ (m : ℕ). Some (m, (let s : Stored = record { key = h.key.key; count = h.pair.1 } in s)))
-    (sym same))
+    (slice_get-map (λ (x : ℕ × ℕ). x.0) es i ∙ ap (option_map (λ (x : ℕ × ℕ). x.0)) h.pair_at) in
+    let same : n ≡ h.pair.0 = eqb-true n h.pair.0 (ap (nat_eq n) (sym number) ∙ p.1) in (
+      record { key = h.key.key; count = h.pair.1 },
+      h.at ∙ ap (λ (m : ℕ). Some (m, (let s : Stored = record { key = h.key.key; count = h.pair.1 } in s)))
+          (sym same),
+    )
 
 pub place_absent : (ks : List HashedKey) (es : List (ℕ × ℕ)) (v : List (ℕ × Stored)) (n : ℕ) (r : Option ℕ)
     → listed ks es ≡ v → length es ≡ length ks → r ≡ position (nat_eq n) (keys_of es)
@@ -63,9 +64,14 @@ key_found ks es v k (Some i) is e at =
     let h = here ks es v i is e (omega (arith, p.0, e, length_seen ks es v is e)) in
     let found : get_or ks i k ≡ h.key = get_or_from_slice_get ks i h.key k h.key_at in
     let same : k.key ≡ h.key.key = same_key-true k.key h.key.key
-        (ap (λ (x : HashedKey). same_key k.key x.key) (sym found) ∙ p.1) in
-    (h.pair.0, h.pair.1, h.at ∙ ap (λ (x : NodeKey). Some (h.pair.0,
-    (let s : Stored = record { key = x; count = h.pair.1 } in s))) (sym same))
+    (ap (λ (x : HashedKey). same_key k.key x.key) (sym found) ∙ p.1) in (
+      h.pair.0,
+      h.pair.1,
+      h.at ∙ ap (λ (x : NodeKey). Some (
+        h.pair.0,
+        (let s : Stored = record { key = x; count = h.pair.1 } in s),
+      )) (sym same),
+    )
 
 pub lacks_seen : (ks : List HashedKey) (es : List (ℕ × ℕ)) (v : List (ℕ × Stored)) (k : NodeKey)
     → listed ks es ≡ v → length es ≡ length ks → list_any (λ (h : HashedKey). same_key k h.key) ks ≡ false
@@ -88,12 +94,17 @@ there_seen ks ks' es v k x i is e kept below at same =
     let h = here ks es v i is e (omega (arith, below, ap length kept, e, length_seen ks es v is e)) in
     let found : Some x ≡ Some h.key = sym at ∙ ap (λ (l : List HashedKey). slice_get l i) kept ∙ h.key_at in
     let key : x.key ≡ h.key.key = ap (λ (o : Option HashedKey). elim o as (λ _. NodeKey) [
-          | None ↦ x.key
-          | Some y ↦ y.key
-        ]) found in
-    let equal : k.key ≡ h.key.key = same_key-true k.key x.key same ∙ key in
-    (h.pair.0, h.pair.1, h.at ∙ ap (λ (y : NodeKey). Some (h.pair.0,
-    (let s : Stored = record { key = y; count = h.pair.1 } in s))) (sym equal))
+      | None ↦ x.key
+      | Some y ↦ y.key
+    ]) found in
+    let equal : k.key ≡ h.key.key = same_key-true k.key x.key same ∙ key in (
+      h.pair.0,
+      h.pair.1,
+      h.at ∙ ap (λ (y : NodeKey). Some (
+        h.pair.0,
+        (let s : Stored = record { key = y; count = h.pair.1 } in s),
+      )) (sym equal),
+    )
 
 -- what a test said
 pub there_from : (new had : Bool) → new ≡ not had → new ≡ false → had ≡ true

@@ -1,6 +1,8 @@
 -- The nodes in the order of the tables, and the map that they are.
-use Rattle.std.proofs.Common.{◌≡◌, ◌⊎◌, inl, inr, ℕ, ◌+◌, Bool, true, false, cond, List, [], ◌∷◌, ◌++◌, length}
-use Rattle.std.proofs.Common.{slice_get, Option, Some, None, refl, sym, ap, ◌∙◌, subst, arith, nat_eq, is_some}
+use Rattle.std.proofs.Common.{◌≡◌, ◌⊎◌, inl, inr, ℕ, ◌+◌, Bool, true, false, cond, List, [], ◌∷◌, ◌++◌}
+use Rattle.std.proofs.Common.{length}
+use Rattle.std.proofs.Common.{slice_get, Option, Some, None, refl, sym, ap, ◌∙◌, subst, arith, nat_eq}
+use Rattle.std.proofs.Common.{is_some}
 use Rattle.std.proofs.Common.{true≢false, unwrap_or, ◌&&◌, ◌<◌}
 use Rattle.std.specs.Prelude.{nat_lt}
 use Rattle.std.specs.Cmp.{nat_cmp_total, nat_eq_equiv}
@@ -51,7 +53,8 @@ pub get_of : (es : List (ℕ × Stored)) (q : ℕ) → map.get (map.from_entries
 get_of es q = get-from_entries nat_cmp_total es q ∙ found q es
 
 pub keeps_at : (room next : ℕ) (es : List (ℕ × Stored)) (i n : ℕ) (s : Stored)
-    → IsDistinct nat_eq (keys_of es) → slice_get es i ≡ Some (n, s) → node_at (room_of room next es) n ≡ Some s
+    → IsDistinct nat_eq (keys_of es) → slice_get es i ≡ Some (n, s) → node_at (room_of room next es) n ≡ Some
+    s
 keeps_at room next es i n s apart at = get_of es n ∙ lookup_from_place nat_eq_equiv es i n s apart at
 
 turned : (n q : ℕ) → nat_eq n q ≡ eq_by_cmp nat_cmp q n
@@ -74,7 +77,7 @@ pub take_seen : (es : List (ℕ × Stored)) (i n : ℕ) (s : Stored) → IsDisti
 take_seen es i n s apart at =
     let first = index-first (nat_eq n) es i (own_first nat_eq nat_eq_equiv es i n s apart at) in
     let out = swap_out nat_eq nat_eq_equiv (nat_eq n) (nat_eq_equiv.congr n) es i (n, s) first at apart
-        (swap_remove es i (n, s)) refl in
+    (swap_remove es i (n, s)) refl in
     same_map nat_cmp_total nat_cmp-IsAntisymmetric _ _ (λ q. get_of (swap_remove es i (n, s)) q
     ∙ out.updated.0 q ∙ (λ j. cond (turned n q j) None (sym (get_of es q) j))
     ∙ sym (get-remove nat_cmp_total (map.from_entries es) n q))
@@ -89,7 +92,7 @@ pub len_seen : (es : List (ℕ × Stored)) → IsDistinct nat_eq (keys_of es)
 len_seen [] apart = len-empty nat_cmp Stored
 len_seen (e ∷ es) apart =
     let none = ap is_some (get_of es e.0 ∙ lookup-IsAbsent (nat_eq e.0) es
-        (IsDistinct-head nat_eq e.0 (keys_of es) apart)) in
+    (IsDistinct-head nat_eq e.0 (keys_of es) apart)) in
     let m = map.from_entries {R = nat_cmp} es in
     let one = len-insert nat_cmp_total m e.0 e.1 ∙ ap (λ b. cond b (map.len m) (map.len m + 1)) none in
     omega (arith, one, len_seen es (IsDistinct-tail nat_eq e.0 (keys_of es) apart))

@@ -1,6 +1,7 @@
 -- Each change of a room leaves it sound.
 use Rattle.std.proofs.Common.{◌≡◌, ◌⊎◌, inl, inr, ℕ, ◌+◌, ◌*◌, ◌/◌, ◌%◌, ◌<◌, ◌≤◌, Bool, true, false, cond}
-use Rattle.std.proofs.Common.{Option, Some, None, refl, sym, ap, ◌∙◌, subst, arith, nat_eq, unwrap_or, is_some}
+use Rattle.std.proofs.Common.{Option, Some, None, refl, sym, ap, ◌∙◌, subst, arith, nat_eq, unwrap_or}
+use Rattle.std.proofs.Common.{is_some}
 use Rattle.std.proofs.Common.{true≢false}
 use Rattle.std.specs.Cmp.{nat_cmp_total}
 use Rattle.std.specs.FinMap as map
@@ -11,7 +12,8 @@ use Rattle.node_key.specs.Rooms.{room}
 use Rattle.node_key.specs.declared.key.NodeKey.{NodeKey}
 use Rattle.node_key.specs.declared.limits.TheConstants.{MAX_NUMBERS, STORE_ROOMS}
 use Rattle.shard_core.specs.declared.limits.TheConstants.{MAX_COUNT}
-use Rattle.shard_core.specs.Room.{Stored, Room, Keeps, IsThere, IsSound, IsPlaced, with_node, with_new, without}
+use Rattle.shard_core.specs.Room.{Stored, Room, Keeps, IsThere, IsSound, IsPlaced, with_node, with_new}
+use Rattle.shard_core.specs.Room.{without}
 use Rattle.shard_core.specs.Room.{next_number}
 use Rattle.shard_core.proofs.RoomMaps.{tie}
 
@@ -24,7 +26,8 @@ by_test m n s t rest false e is = inr is
 put_cases : (nodes : map.FinMap nat_cmp Stored) (n m : ℕ) (s t : Stored)
     → map.get (map.insert nodes n s) m ≡ Some t → ((m ≡ n) × (s ≡ t)) ⊎ (map.get nodes m ≡ Some t)
 put_cases nodes n m s t is = by_test m n s t (map.get nodes m) (nat_eq m n) refl
-    (ap (λ b. cond b (Some s) (map.get nodes m)) (sym (tie m n)) ∙ sym (get-insert nat_cmp_total nodes n s m) ∙ is)
+    (ap (λ b. cond b (Some s) (map.get nodes m)) (sym (tie m n)) ∙ sym (get-insert nat_cmp_total nodes n s m)
+    ∙ is)
 
 by_removal : (t : Stored) (rest : Option Stored) (b : Bool) → cond b None rest ≡ Some t → rest ≡ Some t
 by_removal t rest true is = absurd (true≢false (sym (ap is_some is)))
@@ -97,10 +100,20 @@ IsSound-with_new r k sound absent below here = record {
   keys_differ = λ m l j d e g h. elim (put_cases r.nodes (next_number r) m (node k 1) (node j d) g) [
     | inl p ↦ elim (put_cases r.nodes (next_number r) l (node k 1) (node j e) h) [
       | inl q ↦ p.0 ∙ sym q.0
-      | inr y ↦ absurd (absent (l, e, subst (λ (s : Stored). map.get r.nodes l ≡ Some (node s.key e)) (sym p.1) y))
+      | inr y ↦ absurd (absent (
+        l,
+        e,
+        subst (λ (s : Stored). map.get r.nodes l ≡ Some (node s.key e))
+            (sym p.1) y,
+      ))
     ]
     | inr x ↦ elim (put_cases r.nodes (next_number r) l (node k 1) (node j e) h) [
-      | inl q ↦ absurd (absent (m, d, subst (λ (s : Stored). map.get r.nodes m ≡ Some (node s.key d)) (sym q.1) x))
+      | inl q ↦ absurd (absent (
+        m,
+        d,
+        subst (λ (s : Stored). map.get r.nodes m ≡ Some (node s.key d))
+            (sym q.1) x,
+      ))
       | inr y ↦ sound.keys_differ m l j d e x y
     ]
   ];

@@ -6,7 +6,8 @@ use Rattle.shard_core.specs.declared.nodes.Entered.TheVariants.{There, Added, No
 use Rattle.shard_core.specs.Room.{Stored}
 use Rattle.shard_core.specs.Listed.{LacksKey}
 
--- a key that is there is found at its place, and a new one goes last, with the count 1; only that takes memory
+-- a key that is there is found at its place, and a new one goes last, with the count 1; only that takes
+-- memory
 abbrev pub Enters : List (ℕ × Stored) → NodeKey → ℕ → Entered → List (ℕ × Stored) → Type 0
 Enters old k n (There i) new = (new ≡ old) × (m : ℕ) × (c : ℕ)
     × (slice_get old i ≡ Some (m, record { key = k; count = c }))

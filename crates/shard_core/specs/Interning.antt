@@ -20,7 +20,8 @@ IsSpent r k v = ((¬ IsThere r k) × (r.next ≡ MAX_NUMBERS) × (v ≡ MAX_NUMB
 -- a key that is there is known, and its count rises by one; a new one gets the next number and the count 1; a
 -- refusal changes nothing, and only a new key takes memory
 abbrev pub Interns : Room → NodeKey → Result Interned ShardFault → Room → Type 0
-Interns old k (Ok (Known n)) new = (c : ℕ) × Keeps old n k c × (c < MAX_COUNT) × (new ≡ with_node old n k (c + 1))
+Interns old k (Ok (Known n)) new = (c : ℕ) × Keeps old n k c × (c < MAX_COUNT)
+    × (new ≡ with_node old n k (c + 1))
 Interns old k (Ok (New n)) new =
     (¬ IsThere old k) × (old.next < MAX_NUMBERS) × (n ≡ next_number old) × (new ≡ with_new old k)
 Interns old k (Err (Spent v)) new = IsSpent old k v × (new ≡ old)

@@ -80,7 +80,8 @@ stored_code =
 
 abbrev pub room_code : Coded Room
 room_code =
-    code_by (ℕ × (ℕ × map.FinMap nat_cmp Stored)) (coded× coded_ℕ (coded× coded_ℕ (map.code coded_ℕ stored_code)))
+    code_by (ℕ × (ℕ × map.FinMap nat_cmp Stored))
+    (coded× coded_ℕ (coded× coded_ℕ (map.code coded_ℕ stored_code)))
     (λ r. (r.room, (r.next, r.nodes))) (λ p. record { room = p.0; next = p.1.0; nodes = p.1.1 }) (λ _. refl)
 
 -- the room that these nodes are, in whatever order

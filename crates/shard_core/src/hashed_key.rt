@@ -6,7 +6,9 @@ use std::hash::{Hash, Hasher};
 
 /// Odd numbers whose bits are spread, by which the parts of a key are multiplied.
 const GAP_FACTOR: u64 = 0x9E37_79B9_7F4A_7C15;
+
 const SPAN_FACTOR: u64 = 0xC2B2_AE3D_27D4_EB4F;
+
 const NODE_FACTOR: u64 = 0xD6E8_FEB8_6659_FD93;
 
 /// A key as a table hashes it: by the kids that are there, in one number.
@@ -20,7 +22,6 @@ impl Hash for HashedKey {
     ghost use Rattle.std.proofs.Common.{ap};
     ghost use Rattle.shard_core.specs.Digest.{digest};
     ghost use Rattle.shard_core.specs.SameKey.{digest_of_same};
-
 
     ghost hash_input = { λ k. fed.u64 (digest k.key) };
 

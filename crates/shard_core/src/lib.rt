@@ -6,6 +6,8 @@ mod hashed_key;
 mod limits;
 mod nodes;
 mod shard;
+#[cfg(test)]
+mod tests;
 
 pub use answers::{Dropped, Interned, ShardFault};
 pub use limits::MAX_COUNT;

@@ -148,6 +148,17 @@ impl Nodes {
         self.counts[place] = count;
     }
 
+    /// Gives memory back where less than a quarter of it is used.
+    pub(crate) fn give_back(&mut self)
+        ensures { self.new ≡ self.old }
+    {
+        let len = self.counts.len();
+        if self.counts.capacity() / 4 > len {
+            self.keys.shrink_to(2 * len);
+            self.counts.shrink_to(2 * len);
+        }
+    }
+
     /// Takes out the node at a place. The last one comes there.
     pub(crate) fn take(&mut self, place: usize) -> NodeKey
         requires { place < length self.old }

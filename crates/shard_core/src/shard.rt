@@ -1,4 +1,5 @@
-ghost use Rattle.std.specs.Prelude.{◌≡◌, ◌+◌, ◌<◌, ◌≤◌, ℕ, length, is_some, slice_get, Some, Ok, Err, nat_eq, IsTrue, ◌↔◌, IsSome};
+ghost use Rattle.std.specs.Prelude.{◌≡◌, ◌+◌, ◌<◌, ◌≤◌, ℕ, length, is_some, slice_get, Some, Ok, Err, nat_eq};
+ghost use Rattle.std.specs.Prelude.{IsTrue, ◌↔◌, IsSome};
 ghost use Rattle.std.specs.FinMap as map;
 ghost use Rattle.std.specs.List.{IsDistinct};
 ghost use Rattle.std.specs.Map.{keys_of};
@@ -82,6 +83,8 @@ impl Shard {
     pub fn know_or_add(&mut self, key: NodeKey) -> Result<Interned, ShardFault>
         requires { room key ≡ self.old.room }
         ensures answer { Interns self.old key result self.new }
+        ensures sound { IsSound self.new }
+        ensures same_room { self.new.room ≡ self.old.room }
     {
         let key = HashedKey { key };
         if self.next >= MAX_NUMBERS {
@@ -148,7 +151,9 @@ impl Shard {
     /// Lowers the count of a node by one, and removes the node where that was its last.
     pub fn drop_one(&mut self, n: u64) -> Dropped
         requires { IsSome (node_at self.old n) }
-        ensures { Drops self.old n result self.new }
+        ensures answer { Drops self.old n result self.new }
+        ensures sound { IsSound self.new }
+        ensures same_room { self.new.room ≡ self.old.room }
     {
         let Some(place) = self.nodes.place(n) else {
             unreachable!()
@@ -158,6 +163,7 @@ impl Shard {
             self.nodes.set_count(place, count - 1);
             return Dropped::Kept;
         }
+        self.nodes.give_back();
         Dropped::Removed(self.nodes.take(place))
     }
 }

@@ -14,7 +14,8 @@ returns-clause-apart c = apart_seen c.self.inside.keys.keys c.self.inside.counts
     c.self.view_is c.self.invariant.0 c.self.invariant.1
 
 pub returns-clause-value : goal.returns-clause-value
-returns-clause-value c = count_here c.self.inside.keys.keys c.self.inside.counts.entries c.args.self.now c.args.place _
+returns-clause-value c = count_here c.self.inside.keys.keys c.self.inside.counts.entries c.args.self.now
+    c.args.place _
     (here c.self.inside.keys.keys c.self.inside.counts.entries c.args.self.now c.args.place
     c.self.view_is c.self.invariant.0 c.requires)
     c.in-Some.ensures.entry

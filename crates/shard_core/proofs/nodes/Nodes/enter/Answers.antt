@@ -1,4 +1,5 @@
-use Rattle.std.proofs.Common.{◌≡◌, ◌++◌, ◌∷◌, [], ℕ, List, ap, sym, ◌∙◌, arith, length, length-append, nat_eq, Some}
+use Rattle.std.proofs.Common.{◌≡◌, ◌++◌, ◌∷◌, [], ℕ, List, ap, sym, ◌∙◌, arith, length, length-append, nat_eq}
+use Rattle.std.proofs.Common.{Some}
 use Rattle.std.specs.Prelude.{if◌then◌else◌, Bool}
 use Rattle.std.specs.List.{list_any}
 use Rattle.indexmap.proofs.CallerLemmas.{insert_entry-new}
@@ -12,8 +13,9 @@ use Rattle.shard_core.proofs.nodes.Nodes.enter.Goals as goal
 
 pub returns-in-Err : goal.returns-in-Err
 returns-in-Err c = (
-  lacks_seen c.self.inside.keys.keys c.self.inside.counts.entries c.args.self.now c.args.key.key c.self.view_is
-  c.self.invariant.0 c.in-Err.ensures.absent,
+  lacks_seen c.self.inside.keys.keys c.self.inside.counts.entries c.args.self.now c.args.key.key
+      c.self.view_is
+      c.self.invariant.0 c.in-Err.ensures.absent,
   ap (λ (ks : List HashedKey). listed ks c.self.inside.counts.entries) c.in-Err.ensures.err ∙ c.self.view_is,
 )
 
@@ -30,8 +32,8 @@ returns-then-not-new c =
     let kept = c.in-Ok.ensures.keys ∙ entered c.self.inside.keys.keys c.args.key _ had in
     let stored = c.in-Ok.ensures.stored in
     let at = there_seen c.self.inside.keys.keys c.insert_full.new.self.keys c.self.inside.counts.entries
-        c.args.self.now c.args.key stored.0 c.in-Ok.entered.0 c.self.view_is c.self.invariant.0 kept
-        c.in-Ok.ensures.within stored.1 stored.2 in (
+    c.args.self.now c.args.key stored.0 c.in-Ok.entered.0 c.self.view_is c.self.invariant.0 kept
+    c.in-Ok.ensures.within stored.1 stored.2 in (
       ap (λ (ks : List HashedKey). listed ks c.self.inside.counts.entries) kept ∙ c.self.view_is,
       at.0,
       at.1,
@@ -43,24 +45,34 @@ invariant_of-self-in-Ok-insert c =
     let absent = absent_from c.in-Ok.entered.1 _ c.in-Ok.ensures.added c.if-not-new.false in
     let keys = c.in-Ok.ensures.keys ∙ entered c.self.inside.keys.keys c.args.key _ absent in
     let counts = c.in-Ok-insert.ensures.entries ∙ insert_entry-new nat_eq c.self.inside.counts c.args.number 1
-        (fresh_count c.self.inside.keys.keys c.self.inside.counts.entries c.args.self.now c.args.number c.self.view_is
-        c.self.invariant.0 c.requires) in
-    (omega (arith, ap length keys, ap length counts, c.self.invariant.0,
-    length-append c.self.inside.keys.keys (c.args.key ∷ []),
-    length-append c.self.inside.counts.entries ((c.args.number, 1) ∷ [])), c.in-Ok-insert.ensures.unique)
+    (fresh_count c.self.inside.keys.keys c.self.inside.counts.entries c.args.self.now c.args.number
+    c.self.view_is
+    c.self.invariant.0 c.requires) in (
+      omega (
+        arith,
+        ap length keys,
+        ap length counts,
+        c.self.invariant.0,
+        length-append c.self.inside.keys.keys (c.args.key ∷ []),
+        length-append c.self.inside.counts.entries ((c.args.number, 1) ∷ []),
+      ),
+      c.in-Ok-insert.ensures.unique,
+    )
 
 pub returns-in-Ok-insert : goal.returns-in-Ok-insert
 returns-in-Ok-insert c =
     let absent = absent_from c.in-Ok.entered.1 _ c.in-Ok.ensures.added c.if-not-new.false in
     let keys = c.in-Ok.ensures.keys ∙ entered c.self.inside.keys.keys c.args.key _ absent in
     let counts = c.in-Ok-insert.ensures.entries ∙ insert_entry-new nat_eq c.self.inside.counts c.args.number 1
-        (fresh_count c.self.inside.keys.keys c.self.inside.counts.entries c.args.self.now c.args.number c.self.view_is
-        c.self.invariant.0 c.requires) in (
-      lacks_seen c.self.inside.keys.keys c.self.inside.counts.entries c.args.self.now c.args.key.key c.self.view_is
-      c.self.invariant.0 absent,
+    (fresh_count c.self.inside.keys.keys c.self.inside.counts.entries c.args.self.now c.args.number
+    c.self.view_is
+    c.self.invariant.0 c.requires) in (
+      lacks_seen c.self.inside.keys.keys c.self.inside.counts.entries c.args.self.now c.args.key.key
+          c.self.view_is
+          c.self.invariant.0 absent,
       (λ i. listed (keys i) (counts i)) ∙ listed-push c.self.inside.keys.keys c.self.inside.counts.entries
-      c.args.key (c.args.number, 1) c.self.invariant.0
-      ∙ ap (λ v. v ++ (c.args.number, record { key = c.args.key.key; count = 1 }) ∷ []) c.self.view_is,
+          c.args.key (c.args.number, 1) c.self.invariant.0
+          ∙ ap (λ v. v ++ (c.args.number, record { key = c.args.key.key; count = 1 }) ∷ []) c.self.view_is,
     )
 
 pub returns-in-Err-insert : goal.returns-in-Err-insert
@@ -69,9 +81,10 @@ returns-in-Err-insert c =
     let keys = c.in-Ok.ensures.keys ∙ entered c.self.inside.keys.keys c.args.key _ absent in
     let long = length-append c.self.inside.keys.keys (c.args.key ∷ []) in
     let back = popped_last c.self.inside.keys.keys c.pop.new.self.keys c.args.key c.pop.result
-        (sym keys ∙ c.pop.ensures.keys)
-        (c.pop.ensures.found.1 (omega (arith, ap length keys, long))) in (
-      lacks_seen c.self.inside.keys.keys c.self.inside.counts.entries c.args.self.now c.args.key.key c.self.view_is
-      c.self.invariant.0 absent,
+    (sym keys ∙ c.pop.ensures.keys)
+    (c.pop.ensures.found.1 (omega (arith, ap length keys, long))) in (
+      lacks_seen c.self.inside.keys.keys c.self.inside.counts.entries c.args.self.now c.args.key.key
+          c.self.view_is
+          c.self.invariant.0 absent,
       (λ i. listed (back.1 i) (c.in-Err-insert.ensures.err i)) ∙ c.self.view_is,
     )

@@ -5,7 +5,8 @@ use Rattle.shard_core.proofs.Answering.{part_seen, unseen}
 use Rattle.shard_core.proofs.shard.Shard.node.Goals as goal
 
 pub unreachable-requires : goal.unreachable-requires
-unreachable-requires c = true≢false (sym c.requires ∙ ap is_some (unseen c.self.inside.room c.self.inside.next c.self.inside.nodes
+unreachable-requires c = true≢false (sym c.requires ∙ ap is_some
+    (unseen c.self.inside.room c.self.inside.next c.self.inside.nodes
     c.args.self.now c.args.n c.self.view_is c.in-None.ensures.absent))
 
 pub returns : goal.returns
