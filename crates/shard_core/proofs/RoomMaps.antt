@@ -27,7 +27,7 @@ use Rattle.node_key.specs.declared.key.Kid.{Kid}
 use Rattle.node_key.specs.declared.key.NodeKey.{NodeKey}
 use Rattle.shard_core.specs.Listed.{LacksKey}
 use Rattle.shard_core.specs.Room.{Stored, Room, Keeps, IsThere, node_at, room_of}
-use Rattle.shard_core.specs.SameKey.{same_kid, same_key}
+use Rattle.shard_core.specs.SameKey.{same_key, same_key-equiv}
 
 tied : (x y : ℕ) (b e : Bool) → nat_lt x y ≡ b → nat_eq x y ≡ e
     → is_eq (cond b Less (cond e Equal Greater)) ≡ e
@@ -97,19 +97,10 @@ len_seen (e ∷ es) apart =
     let one = len-insert nat_cmp_total m e.0 e.1 ∙ ap (λ b. cond b (map.len m) (map.len m + 1)) none in
     omega (arith, one, len_seen es (IsDistinct-tail nat_eq e.0 (keys_of es) apart))
 
-same_kids-refl : (ks : List Kid) → pointwise same_kid ks ks ≡ true
-same_kids-refl [] = refl
-same_kids-refl (k ∷ ks) = λ i. (nat_eq_equiv.refl k.gap i && (nat_eq_equiv.refl k.span i
-    && nat_eq_equiv.refl k.node i)) && same_kids-refl ks i
-
-pub same_key-refl : (k : NodeKey) → same_key k k ≡ true
-same_key-refl k = λ i. nat_eq_equiv.refl k.func i && (nat_eq_equiv.refl k.dur i
-    && (nat_eq_equiv.refl k.height i && (nat_eq_equiv.refl k.len i && same_kids-refl k.kids i)))
-
 -- a key that no entry has is not there
 pub absent_key : (room next : ℕ) (es : List (ℕ × Stored)) (k : NodeKey) → LacksKey es k
     → ¬ IsThere (room_of room next es) k
 absent_key room next es k lacks there =
     let p = place_from_lookup (nat_eq there.0) es _ (sym (get_of es there.0) ∙ there.2) in
     true≢false (sym (any_passes_from_place (λ (e : ℕ × Stored). same_key k e.1.key) es p.0 _ p.2
-    (same_key-refl k)) ∙ lacks)
+    (same_key-equiv.refl k)) ∙ lacks)

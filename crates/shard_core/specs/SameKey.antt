@@ -1,7 +1,8 @@
 -- Equality of keys, as a test.
 use Rattle.std.specs.Prelude.{◌≡◌, ◌≤◌, ◌↔◌, ◌+◌, ◌-◌, drop, replicate, sum_by, ℕ, Bool, true, false, ◌&&◌}
 use Rattle.std.specs.Prelude.{◌==◌, List, [], ◌∷◌, length, refl, IsTrue}
-use Rattle.std.specs.Cmp.Lexicographic.{pointwise}
+use Rattle.std.specs.Cmp.{IsEquivalence, and_equiv, on_equiv, nat_eq_equiv}
+use Rattle.std.specs.Cmp.Lexicographic.{pointwise, lists_equiv}
 use Rattle.std.proofs.Common.{ap, sym, ◌∙◌}
 use Rattle.std.proofs.lemmas.Bool.{and_parts, eqb-true, true≢false}
 use Rattle.std.proofs.Props.{props}
@@ -24,6 +25,17 @@ same_kid a b = a.gap == b.gap && (a.span == b.span && a.node == b.node)
 abbrev pub same_key : NodeKey → NodeKey → Bool
 same_key a b = a.func == b.func && (a.dur == b.dur && (a.height == b.height && (a.len == b.len
     && pointwise same_kid a.kids b.kids)))
+
+same_kid-equiv : IsEquivalence same_kid
+same_kid-equiv = and_equiv (on_equiv (λ k. k.gap) nat_eq_equiv)
+    (and_equiv (on_equiv (λ k. k.span) nat_eq_equiv) (on_equiv (λ k. k.node) nat_eq_equiv))
+
+-- to be the same is an equivalence
+pub same_key-equiv : IsEquivalence same_key
+same_key-equiv = and_equiv (on_equiv (λ k. k.func) nat_eq_equiv)
+    (and_equiv (on_equiv (λ k. k.dur) nat_eq_equiv)
+    (and_equiv (on_equiv (λ k. k.height) nat_eq_equiv) (and_equiv (on_equiv (λ k. k.len) nat_eq_equiv)
+    (on_equiv (λ k. k.kids) (lists_equiv same_kid-equiv)))))
 
 same_kid-true : (a b : Kid) → same_kid a b ≡ true → a ≡ b
 same_kid-true a b h =

@@ -12,9 +12,29 @@ const SPAN_FACTOR: u64 = 0xC2B2_AE3D_27D4_EB4F;
 const NODE_FACTOR: u64 = 0xD6E8_FEB8_6659_FD93;
 
 /// A key as a table hashes it: by the kids that are there, in one number.
-#[derive(Clone, Copy, PartialEq, Eq)]
+#[derive(Clone, Copy)]
 pub(crate) struct HashedKey {
     pub(crate) key: NodeKey,
+}
+
+impl PartialEq for HashedKey {
+    ghost use Rattle.std.specs.Cmp.{on_equiv, partial_equiv_from_equiv};
+    ghost use Rattle.shard_core.specs.SameKey.{same_key, same_key-equiv};
+
+    ghost eq = { λ a b. same_key a.key b.key };
+
+    ghost laws = { partial_equiv_from_equiv (on_equiv (λ h. h.key) same_key-equiv) };
+
+    fn eq(&self, other: &HashedKey) -> bool {
+        self.key == other.key
+    }
+}
+
+impl Eq for HashedKey {
+    ghost use Rattle.std.specs.Cmp.{on_equiv};
+    ghost use Rattle.shard_core.specs.SameKey.{same_key-equiv};
+
+    ghost laws = { on_equiv (λ h. h.key) same_key-equiv };
 }
 
 impl Hash for HashedKey {

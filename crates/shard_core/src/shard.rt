@@ -20,6 +20,9 @@ use node_key::{MAX_NUMBERS, NodeKey, STORE_ROOMS};
 use std::alloc::Global;
 use std::marker::Model;
 
+/// The count of a node that goes when one count less is left.
+const LAST_COUNT: u64 = 1;
+
 /// A room of the store: its nodes, each under one number with one key and a count, and the index of the
 /// number that a new key gets.
 #[derive(Drop)]
@@ -159,7 +162,7 @@ impl Shard {
             unreachable!()
         };
         let count = self.nodes.count(place);
-        if count > 1 {
+        if count > LAST_COUNT {
             self.nodes.set_count(place, count - 1);
             return Dropped::Kept;
         }

@@ -28,15 +28,15 @@ invariant_of-self c =
     let f = c.in-Some.ensures.found in
     (kept c.self.inside.room c.self.inside.next c.self.inside.nodes c.set_count.new.self c.in-Some.place
     c.args.n f.0 c.count-count.result c.self.invariant c.place.ensures.apart f.1 c.count-count.ensures.value
-    c.if-count-gt1.true (c.set_count.ensures c.args.n f.0 f.1)).1
+    c.if-count-gt-LAST_COUNT.true (c.set_count.ensures c.args.n f.0 f.1)).1
 
-pub returns-then-count-gt1 : goal.returns-then-count-gt1
-returns-then-count-gt1 c =
+pub returns-then-count-gt-LAST_COUNT : goal.returns-then-count-gt-LAST_COUNT
+returns-then-count-gt-LAST_COUNT c =
     let f = c.in-Some.ensures.found in
     let both = kept c.self.inside.room c.self.inside.next c.self.inside.nodes c.set_count.new.self
     c.in-Some.place
     c.args.n f.0 c.count-count.result c.self.invariant c.place.ensures.apart f.1 c.count-count.ensures.value
-    c.if-count-gt1.true (c.set_count.ensures c.args.n f.0 f.1) in
+    c.if-count-gt-LAST_COUNT.true (c.set_count.ensures c.args.n f.0 f.1) in
     record {
       answer = subst (λ (r : Room). Drops r c.args.n Kept
           (room_of c.self.inside.room c.self.inside.next c.set_count.new.self)) c.self.view_is both.0;
@@ -53,7 +53,7 @@ invariant_of-self-2 c =
     c.give_back.ensures in
     (removed c.self.inside.room c.self.inside.next c.self.inside.nodes c.take.new.self c.in-Some.place
     c.args.n f.0 c.count-count.result c.take.result c.self.invariant c.place.ensures.apart f.1
-    c.count-count.ensures.value c.if-count-gt1.false t.0 after).1
+    c.count-count.ensures.value c.if-count-gt-LAST_COUNT.false t.0 after).1
 
 pub returns : goal.returns
 returns c =
@@ -65,7 +65,7 @@ returns c =
     let both = removed c.self.inside.room c.self.inside.next c.self.inside.nodes c.take.new.self
     c.in-Some.place
     c.args.n f.0 c.count-count.result c.take.result c.self.invariant c.place.ensures.apart f.1
-    c.count-count.ensures.value c.if-count-gt1.false t.0 after in
+    c.count-count.ensures.value c.if-count-gt-LAST_COUNT.false t.0 after in
     record {
       answer = subst (λ (r : Room). Drops r c.args.n (Removed c.take.result)
           (room_of c.self.inside.room c.self.inside.next c.take.new.self)) c.self.view_is both.0;
