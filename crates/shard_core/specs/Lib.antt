@@ -1,6 +1,7 @@
 pub mod Digest
 pub mod Entering
 pub mod Interning
+pub mod Laws
 pub mod Listed
 pub mod Room
 pub mod SameKey

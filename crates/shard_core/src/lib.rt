@@ -3,6 +3,7 @@
 
 mod answers;
 mod hashed_key;
+mod laws;
 mod limits;
 mod nodes;
 mod shard;
@@ -10,5 +11,6 @@ mod shard;
 mod tests;
 
 pub use answers::{Dropped, Interned, ShardFault};
+pub use laws::{next_never_falls, numbers_given_once, spent_by_its_causes};
 pub use limits::MAX_COUNT;
 pub use shard::Shard;
