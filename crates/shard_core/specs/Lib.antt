@@ -1,5 +1,6 @@
 pub mod Digest
 pub mod Entering
+pub mod Examples
 pub mod Interning
 pub mod Laws
 pub mod Listed
