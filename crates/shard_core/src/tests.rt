@@ -39,6 +39,163 @@ fn leaf_of_19() -> NodeKey
     }
 }
 
+const FIRST: Kid = Kid {
+    gap: 1,
+    span: 2,
+    node: 16,
+};
+
+const SECOND: Kid = Kid {
+    gap: 3,
+    span: 4,
+    node: 32,
+};
+
+/// A node over two kids.
+#[tactic(auto, unfolding(node_key::specs::Rooms::room))]
+fn two_kids() -> NodeKey
+    ensures { room result ≡ 10 }
+{
+    NodeKey {
+        func: 5,
+        dur: 100,
+        height: 1,
+        len: 2,
+        kids: [
+            FIRST, SECOND, NO_KID, NO_KID, NO_KID, NO_KID, NO_KID, NO_KID,
+        ],
+    }
+}
+
+/// Another gap before the first kid.
+#[tactic(auto, unfolding(node_key::specs::Rooms::room))]
+fn other_gap() -> NodeKey
+    ensures { room result ≡ 10 }
+{
+    NodeKey {
+        func: 5,
+        dur: 100,
+        height: 1,
+        len: 2,
+        kids: [
+            Kid {
+                gap: 17,
+                span: 2,
+                node: 16,
+            },
+            SECOND,
+            NO_KID,
+            NO_KID,
+            NO_KID,
+            NO_KID,
+            NO_KID,
+            NO_KID,
+        ],
+    }
+}
+
+/// The first kid lasts longer.
+#[tactic(auto, unfolding(node_key::specs::Rooms::room))]
+fn other_span() -> NodeKey
+    ensures { room result ≡ 10 }
+{
+    NodeKey {
+        func: 5,
+        dur: 100,
+        height: 1,
+        len: 2,
+        kids: [
+            Kid {
+                gap: 1,
+                span: 18,
+                node: 16,
+            },
+            SECOND,
+            NO_KID,
+            NO_KID,
+            NO_KID,
+            NO_KID,
+            NO_KID,
+            NO_KID,
+        ],
+    }
+}
+
+/// The first kid is another node.
+#[tactic(auto, unfolding(node_key::specs::Rooms::room))]
+fn other_number() -> NodeKey
+    ensures { room result ≡ 10 }
+{
+    NodeKey {
+        func: 5,
+        dur: 100,
+        height: 1,
+        len: 2,
+        kids: [
+            Kid {
+                gap: 1,
+                span: 2,
+                node: 32,
+            },
+            SECOND,
+            NO_KID,
+            NO_KID,
+            NO_KID,
+            NO_KID,
+            NO_KID,
+            NO_KID,
+        ],
+    }
+}
+
+/// The node is higher.
+#[tactic(auto, unfolding(node_key::specs::Rooms::room))]
+fn other_height() -> NodeKey
+    ensures { room result ≡ 10 }
+{
+    NodeKey {
+        func: 5,
+        dur: 100,
+        height: 17,
+        len: 2,
+        kids: [
+            FIRST, SECOND, NO_KID, NO_KID, NO_KID, NO_KID, NO_KID, NO_KID,
+        ],
+    }
+}
+
+/// A kid more, which is all zero.
+#[tactic(auto, unfolding(node_key::specs::Rooms::room))]
+fn other_len() -> NodeKey
+    ensures { room result ≡ 10 }
+{
+    NodeKey {
+        func: 5,
+        dur: 100,
+        height: 1,
+        len: 3,
+        kids: [
+            FIRST, SECOND, NO_KID, NO_KID, NO_KID, NO_KID, NO_KID, NO_KID,
+        ],
+    }
+}
+
+/// The kids in the other order.
+#[tactic(auto, unfolding(node_key::specs::Rooms::room))]
+fn other_order() -> NodeKey
+    ensures { room result ≡ 10 }
+{
+    NodeKey {
+        func: 5,
+        dur: 100,
+        height: 1,
+        len: 2,
+        kids: [
+            SECOND, FIRST, NO_KID, NO_KID, NO_KID, NO_KID, NO_KID, NO_KID,
+        ],
+    }
+}
+
 #[test]
 fn the_last_number_of_a_room(rt: HostRuntime) -> Result<(), Fail> {
     let mut shard = Shard::starting_at(rt.alloc(), 3, MAX_NUMBERS - 1);
@@ -61,6 +218,24 @@ fn the_last_number_of_a_room(rt: HostRuntime) -> Result<(), Fail> {
         shard.know_or_add(leaf_of_3()),
         Err(ShardFault::Spent(MAX_NUMBERS))
     );
+    Ok(())
+}
+
+#[test]
+fn keys_that_differ_in_one_part(rt: HostRuntime) -> Result<(), Fail> {
+    let mut shard = Shard::starting_at(rt.alloc(), 10, 0);
+    assert_eq!(rt; shard.len(), 0);
+    assert_eq!(rt; shard.know_or_add(two_kids()), Ok(Interned::New(10)));
+    assert_eq!(rt; shard.know_or_add(other_gap()), Ok(Interned::New(26)));
+    assert_eq!(rt; shard.know_or_add(other_span()), Ok(Interned::New(42)));
+    assert_eq!(rt; shard.know_or_add(other_number()), Ok(Interned::New(58)));
+    assert_eq!(rt; shard.know_or_add(other_height()), Ok(Interned::New(74)));
+    assert_eq!(rt; shard.know_or_add(other_len()), Ok(Interned::New(90)));
+    assert_eq!(rt; shard.know_or_add(other_order()), Ok(Interned::New(106)));
+    assert_eq!(rt; (shard.next(), shard.len()), (7, 7));
+    assert_eq!(rt; shard.know_or_add(other_gap()), Ok(Interned::Known(26)));
+    assert_eq!(rt; shard.know_or_add(two_kids()), Ok(Interned::Known(10)));
+    assert_eq!(rt; (shard.next(), shard.len()), (7, 7));
     Ok(())
 }
 
