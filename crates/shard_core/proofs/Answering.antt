@@ -1,5 +1,5 @@
 -- What each step on the tables is to the room.
-use Rattle.std.proofs.Common.{◌≡◌, ◌≢◌, ◌⊎◌, inl, inr, ℕ, ◌+◌, ◌-◌, ◌*◌, ◌<◌, ◌≤◌, List, [], ◌∷◌, ◌++◌}
+use Rattle.std.proofs.Common.{◌≡◌, inl, inr, ℕ, ◌+◌, ◌-◌, ◌*◌, ◌<◌, ◌≤◌, List, [], ◌∷◌, ◌++◌}
 use Rattle.std.proofs.Common.{slice_get}
 use Rattle.std.proofs.Common.{Option, Some, None, refl, sym, ap, ◌∙◌, subst, arith, nat_eq, is_some}
 use Rattle.std.proofs.Common.{unwrap_or}
@@ -18,13 +18,13 @@ use Rattle.shard_core.specs.declared.limits.TheConstants.{MAX_COUNT}
 use Rattle.shard_core.specs.declared.answers.Interned.{Interned}
 use Rattle.shard_core.specs.declared.answers.Interned.TheVariants.{Known, New}
 use Rattle.shard_core.specs.declared.answers.ShardFault.{ShardFault}
-use Rattle.shard_core.specs.declared.answers.ShardFault.TheVariants.{Memory, Spent}
+use Rattle.shard_core.specs.declared.answers.ShardFault.TheVariants.{Spent}
 use Rattle.shard_core.specs.declared.answers.Dropped.TheVariants.{Kept, Removed}
 use Rattle.shard_core.specs.Interning.{IsSpent, Interns, Drops}
 use Rattle.shard_core.specs.Listed.{LacksKey}
-use Rattle.shard_core.specs.Room.{Stored, Room, Keeps, IsThere, IsSound, node_at, room_of, with_node}
+use Rattle.shard_core.specs.Room.{Stored, Room, Keeps, IsSound, node_at, room_of, with_node}
 use Rattle.shard_core.specs.Room.{with_new}
-use Rattle.shard_core.specs.Room.{without, next_number}
+use Rattle.shard_core.specs.Room.{without}
 use Rattle.shard_core.proofs.RoomMaps.{get_of, keeps_at, set_seen, take_seen, push_seen, absent_key}
 use Rattle.shard_core.proofs.Soundness.{IsSound-with_node, IsSound-with_new, IsSound-without}
 

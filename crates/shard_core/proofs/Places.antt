@@ -1,8 +1,8 @@
 -- Where a number and a key stand, and what becomes of the tables when a key is entered.
-use Rattle.std.proofs.Common.{◌≡◌, ℕ, ◌+◌, ◌<◌, Bool, true, false, List, [], ◌∷◌, ◌++◌, length, nat_eq}
-use Rattle.std.proofs.Common.{slice_get, Option, Some, None, refl, sym, ap, ◌∙◌, subst, arith, length-append}
+use Rattle.std.proofs.Common.{◌≡◌, ℕ, ◌<◌, Bool, true, false, List, length, nat_eq}
+use Rattle.std.proofs.Common.{slice_get, Option, Some, None, refl, sym, ap, ◌∙◌, subst, arith}
 use Rattle.std.proofs.Common.{get_or, position, IfSome, IfNone, is_some, true≢false, unwrap_or}
-use Rattle.std.specs.Prelude.{not, if◌then◌else◌}
+use Rattle.std.specs.Prelude.{not}
 use Rattle.std.specs.List.{list_any, IsDistinct}
 use Rattle.std.specs.Option.{option_map}
 use Rattle.std.specs.Map.{keys_of, lookup}
@@ -16,8 +16,8 @@ use Rattle.node_key.specs.declared.key.NodeKey.{NodeKey}
 use Rattle.shard_core.specs.declared.hashed_key.HashedKey.{HashedKey}
 use Rattle.shard_core.specs.Room.{Stored}
 use Rattle.shard_core.specs.SameKey.{same_key, same_key-true}
-use Rattle.shard_core.specs.Listed.{entry, listed, LacksKey}
-use Rattle.shard_core.proofs.Listed.{keys_of-listed, length-listed, Here, here, keys-listed}
+use Rattle.shard_core.specs.Listed.{listed, LacksKey}
+use Rattle.shard_core.proofs.Listed.{keys_of-listed, length-listed, here, keys-listed}
 
 pub keys_seen : (ks : List HashedKey) (es : List (ℕ × ℕ)) (v : List (ℕ × Stored)) → listed ks es ≡ v
     → length es ≡ length ks → keys_of v ≡ keys_of es

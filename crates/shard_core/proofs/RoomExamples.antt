@@ -1,13 +1,13 @@
 -- What is under the numbers of the rooms of the examples.
-use Rattle.std.proofs.Common.{◌≡◌, ℕ, ◌+◌, Option, Some, None, refl, sym, ap, ◌∙◌, is_some, true≢false}
+use Rattle.std.proofs.Common.{◌≡◌, ℕ, Some, None, sym, ap, ◌∙◌, is_some, true≢false}
 use Rattle.std.specs.Cmp.{nat_cmp_total}
 use Rattle.std.specs.FinMap as map
 use Rattle.std.specs.FinMap.{get-insert, get-remove, get-empty}
 use Rattle.std.specs.Ordering.{nat_cmp}
 use Rattle.node_key.specs.Examples.{leaf_of_three}
 use Rattle.node_key.specs.declared.key.NodeKey.{NodeKey}
-use Rattle.shard_core.specs.Room.{Stored, Room, IsThere, Keeps, node_at, next_number, without}
-use Rattle.shard_core.specs.Examples.{one_left, last_given, last_number, counted, all_given}
+use Rattle.shard_core.specs.Room.{IsThere, Keeps, node_at, next_number, without}
+use Rattle.shard_core.specs.Examples.{one_left, last_given, last_number, counted}
 
 -- a room without nodes has no key
 pub no_key : (room next : ℕ) (k : NodeKey)

@@ -1,12 +1,9 @@
 -- What follows from the answers of a room.
-use Rattle.std.proofs.Common.{◌≡◌, ◌⊎◌, inl, inr, ℕ, ◌+◌, ◌*◌, ◌/◌, ◌<◌, ◌≤◌, Option, Some, None, refl, sym}
-use Rattle.std.proofs.Common.{ap, ◌∙◌, arith, unwrap_or, Result, Ok, Err}
+use Rattle.std.proofs.Common.{◌≡◌, inl, inr, ℕ, ◌+◌, Option, Some, None, refl, sym}
+use Rattle.std.proofs.Common.{ap, ◌∙◌, arith, unwrap_or, Ok, Err}
 use Rattle.node_key.specs.declared.key.NodeKey.{NodeKey}
-use Rattle.node_key.specs.declared.limits.TheConstants.{MAX_NUMBERS, STORE_ROOMS}
 use Rattle.shard_core.specs.declared.limits.TheConstants.{MAX_COUNT}
-use Rattle.shard_core.specs.declared.answers.Interned.{Interned}
 use Rattle.shard_core.specs.declared.answers.Interned.TheVariants.{Known, New}
-use Rattle.shard_core.specs.declared.answers.ShardFault.{ShardFault}
 use Rattle.shard_core.specs.declared.answers.ShardFault.TheVariants.{Memory, Spent}
 use Rattle.shard_core.specs.declared.answers.Dropped.TheVariants.{Kept, Removed}
 use Rattle.shard_core.specs.Room.{Stored, Room, Keeps, IsSound, node_at, next_number}

@@ -1,16 +1,15 @@
 -- The nodes in the order of the tables, and the map that they are.
-use Rattle.std.proofs.Common.{◌≡◌, ◌⊎◌, inl, inr, ℕ, ◌+◌, Bool, true, false, cond, List, [], ◌∷◌, ◌++◌}
+use Rattle.std.proofs.Common.{◌≡◌, ℕ, ◌+◌, Bool, true, false, cond, List, [], ◌∷◌, ◌++◌}
 use Rattle.std.proofs.Common.{length}
-use Rattle.std.proofs.Common.{slice_get, Option, Some, None, refl, sym, ap, ◌∙◌, subst, arith, nat_eq}
+use Rattle.std.proofs.Common.{slice_get, Some, None, refl, sym, ap, ◌∙◌, arith, nat_eq}
 use Rattle.std.proofs.Common.{is_some}
-use Rattle.std.proofs.Common.{true≢false, unwrap_or, ◌&&◌, ◌<◌}
+use Rattle.std.proofs.Common.{true≢false, ◌<◌}
 use Rattle.std.specs.Prelude.{nat_lt}
 use Rattle.std.specs.Cmp.{nat_cmp_total, nat_eq_equiv}
-use Rattle.std.specs.Cmp.Lexicographic.{pointwise}
 use Rattle.std.specs.FinMap as map
 use Rattle.std.specs.FinMap.{get-from_entries, get-insert, get-remove, same_map, nat_cmp-IsAntisymmetric}
 use Rattle.std.specs.FinMap.{from_entries_push, find, len-insert, len-empty}
-use Rattle.std.specs.List.{IsDistinct, swap_remove, list_any}
+use Rattle.std.specs.List.{IsDistinct, swap_remove}
 use Rattle.std.specs.Map.{keys_of, lookup}
 use Rattle.std.specs.Ordering.{nat_cmp, eq_by_cmp, is_eq}
 use Rattle.std.specs.declared.cmp.Ordering.TheVariants.{Less, Equal, Greater}
@@ -23,10 +22,9 @@ use Rattle.indexmap.proofs.CallerLemmas.{updates-with_value_at}
 use Rattle.indexmap.proofs.MapLemmas.{index-first}
 use Rattle.indexmap.proofs.RemoveLemmas.{swap_out, own_first}
 use Rattle.std_collections.proofs.HashLookup.{lookup-IsAbsent}
-use Rattle.node_key.specs.declared.key.Kid.{Kid}
 use Rattle.node_key.specs.declared.key.NodeKey.{NodeKey}
 use Rattle.shard_core.specs.Listed.{LacksKey}
-use Rattle.shard_core.specs.Room.{Stored, Room, Keeps, IsThere, node_at, room_of}
+use Rattle.shard_core.specs.Room.{Stored, IsThere, node_at, room_of}
 use Rattle.shard_core.specs.SameKey.{same_key, same_key-equiv}
 
 tied : (x y : ℕ) (b e : Bool) → nat_lt x y ≡ b → nat_eq x y ≡ e

@@ -1,5 +1,5 @@
 -- Each change of a room leaves it sound.
-use Rattle.std.proofs.Common.{◌≡◌, ◌⊎◌, inl, inr, ℕ, ◌+◌, ◌*◌, ◌/◌, ◌%◌, ◌<◌, ◌≤◌, Bool, true, false, cond}
+use Rattle.std.proofs.Common.{◌≡◌, ◌⊎◌, inl, inr, ℕ, ◌/◌, ◌%◌, ◌<◌, ◌≤◌, Bool, true, false, cond}
 use Rattle.std.proofs.Common.{Option, Some, None, refl, sym, ap, ◌∙◌, subst, arith, nat_eq, unwrap_or}
 use Rattle.std.proofs.Common.{is_some}
 use Rattle.std.proofs.Common.{true≢false}
@@ -12,7 +12,7 @@ use Rattle.node_key.specs.Rooms.{room}
 use Rattle.node_key.specs.declared.key.NodeKey.{NodeKey}
 use Rattle.node_key.specs.declared.limits.TheConstants.{MAX_NUMBERS, STORE_ROOMS}
 use Rattle.shard_core.specs.declared.limits.TheConstants.{MAX_COUNT}
-use Rattle.shard_core.specs.Room.{Stored, Room, Keeps, IsThere, IsSound, IsPlaced, with_node, with_new}
+use Rattle.shard_core.specs.Room.{Stored, Room, Keeps, IsThere, IsSound, with_node, with_new}
 use Rattle.shard_core.specs.Room.{without}
 use Rattle.shard_core.specs.Room.{next_number}
 use Rattle.shard_core.proofs.RoomMaps.{tie}

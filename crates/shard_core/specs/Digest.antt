@@ -1,5 +1,5 @@
 -- What a key is hashed by.
-use Rattle.std.specs.Prelude.{◌≡◌, ℕ, ◌+◌, ◌*◌, ◌%◌, ◌^◌, bit_xor, fold, take, IsTrue}
+use Rattle.std.specs.Prelude.{ℕ, ◌+◌, ◌*◌, ◌%◌, ◌^◌, bit_xor, fold, take}
 use Rattle.node_key.specs.declared.key.Kid.{Kid}
 use Rattle.node_key.specs.declared.key.NodeKey.{NodeKey}
 

@@ -1,5 +1,5 @@
 -- Small rooms on which the definitions are computed.
-use Rattle.std.specs.Prelude.{◌≡◌, ℕ, ◌-◌}
+use Rattle.std.specs.Prelude.{ℕ, ◌-◌}
 use Rattle.std.specs.FinMap as map
 use Rattle.node_key.specs.Examples.{leaf_of_three}
 use Rattle.node_key.specs.declared.limits.TheConstants.{MAX_NUMBERS}

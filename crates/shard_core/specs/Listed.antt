@@ -1,5 +1,5 @@
 -- The nodes of a room in the order of its tables.
-use Rattle.std.specs.Prelude.{◌≡◌, ℕ, Bool, false, List, [], ◌∷◌, ◌++◌, slice_get, Some}
+use Rattle.std.specs.Prelude.{◌≡◌, ℕ, false, List, [], ◌∷◌}
 use Rattle.std.specs.List.{list_any}
 use Rattle.node_key.specs.declared.key.NodeKey.{NodeKey}
 use Rattle.shard_core.specs.declared.hashed_key.HashedKey.{HashedKey}

@@ -1,9 +1,9 @@
 -- Equality of keys, as a test.
-use Rattle.std.specs.Prelude.{◌≡◌, ◌≤◌, ◌↔◌, ◌+◌, ◌-◌, drop, replicate, sum_by, ℕ, Bool, true, false, ◌&&◌}
-use Rattle.std.specs.Prelude.{◌==◌, List, [], ◌∷◌, length, refl, IsTrue}
+use Rattle.std.specs.Prelude.{◌≡◌, ◌≤◌, ◌↔◌, ◌+◌, ◌-◌, drop, replicate, sum_by, Bool, true, ◌&&◌}
+use Rattle.std.specs.Prelude.{◌==◌, List, [], ◌∷◌, refl}
 use Rattle.std.specs.Cmp.{IsEquivalence, and_equiv, on_equiv, nat_eq_equiv}
 use Rattle.std.specs.Cmp.Lexicographic.{pointwise, lists_equiv}
-use Rattle.std.proofs.Common.{ap, sym, ◌∙◌}
+use Rattle.std.proofs.Common.{ap, sym}
 use Rattle.std.proofs.lemmas.Bool.{and_parts, eqb-true, true≢false}
 use Rattle.std.proofs.Props.{props}
 use base.Stored.{Coded-set}

@@ -1,5 +1,5 @@
-use Rattle.std.proofs.Common.{◌≡◌, sym, ◌∙◌, ℕ, Some, None, slice_get}
-use Rattle.shard_core.proofs.Listed.{here, Here, count_here}
+use Rattle.std.proofs.Common.{◌≡◌, ◌∙◌, Some, None}
+use Rattle.shard_core.proofs.Listed.{here, count_here}
 use Rattle.shard_core.proofs.Places.{apart_seen}
 use Rattle.shard_core.proofs.nodes.Nodes.count.Goals as goal
 

@@ -1,5 +1,5 @@
-use Rattle.std.proofs.Common.{◌≡◌, sym, ◌∙◌, ℕ, Some, None, slice_get}
-use Rattle.shard_core.proofs.Listed.{here, Here, key_here}
+use Rattle.std.proofs.Common.{◌≡◌, ◌∙◌, Some, None}
+use Rattle.shard_core.proofs.Listed.{here, key_here}
 use Rattle.shard_core.proofs.nodes.Nodes.key.Goals as goal
 
 pub unreachable-requires : goal.unreachable-requires

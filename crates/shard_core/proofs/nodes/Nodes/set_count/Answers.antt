@@ -1,6 +1,5 @@
-use Rattle.std.proofs.Common.{◌≡◌, ℕ, List, arith, ap, sym, ◌∙◌, subst, nat_eq, Some, unwrap_or}
+use Rattle.std.proofs.Common.{ℕ, List, arith, ap, sym, ◌∙◌, subst, nat_eq}
 use Rattle.std.specs.List.{IsDistinct}
-use Rattle.node_key.specs.declared.key.NodeKey.{NodeKey}
 use Rattle.indexmap.specs.IndexMap.{set_value_at}
 use Rattle.indexmap.proofs.CallerLemmas.{keys-with_value_at, index_map_len-with_value_at}
 use Rattle.shard_core.specs.Room.{Stored}

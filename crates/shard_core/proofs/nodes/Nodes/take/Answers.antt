@@ -1,4 +1,4 @@
-use Rattle.std.proofs.Common.{◌≡◌, ◌<◌, ℕ, List, Option, arith, ap, sym, ◌∙◌, subst, Some, None, IfSome}
+use Rattle.std.proofs.Common.{◌≡◌, ◌<◌, ℕ, List, Option, arith, ap, ◌∙◌, subst, Some, None, IfSome}
 use Rattle.std.proofs.Common.{unwrap_or, length}
 use Rattle.std.specs.List.{swap_remove}
 use Rattle.shard_core.specs.declared.hashed_key.HashedKey.{HashedKey}

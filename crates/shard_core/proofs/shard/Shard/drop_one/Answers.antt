@@ -1,4 +1,4 @@
-use Rattle.std.proofs.Common.{◌≡◌, sym, ap, ◌∙◌, is_some, true≢false, subst, List, ℕ, Some, slice_get}
+use Rattle.std.proofs.Common.{sym, ap, ◌∙◌, is_some, true≢false, subst, List, ℕ, slice_get}
 use Rattle.std.specs.List.{swap_remove}
 use Rattle.std.proofs.lemmas.Option.{slice_get_within}
 use Rattle.shard_core.specs.declared.answers.Dropped.TheVariants.{Kept, Removed}

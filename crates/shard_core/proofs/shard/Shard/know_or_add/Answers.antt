@@ -1,9 +1,8 @@
-use Rattle.std.proofs.Common.{◌≡◌, sym, ap, ◌∙◌, subst, arith, ℕ, Ok, Err, refl, ◌+◌, ◌*◌, ◌<◌, List}
+use Rattle.std.proofs.Common.{sym, ap, ◌∙◌, subst, ℕ, Ok, refl, ◌+◌, ◌*◌, ◌<◌, List}
 use Rattle.std.proofs.Common.{slice_get}
 use Rattle.std.proofs.lemmas.Option.{slice_get_within}
 use Rattle.node_key.specs.declared.limits.TheConstants.{MAX_NUMBERS, STORE_ROOMS}
 use Rattle.shard_core.specs.declared.answers.Interned.TheVariants.{New}
-use Rattle.shard_core.specs.declared.answers.ShardFault.TheVariants.{Memory}
 use Rattle.shard_core.specs.Interning.{Interns, IsSpent}
 use Rattle.shard_core.specs.Room.{Room, Stored, IsThere, IsSound, room_of}
 use Rattle.shard_core.proofs.RoomMaps.{absent_key}

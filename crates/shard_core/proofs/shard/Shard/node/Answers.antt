@@ -1,5 +1,4 @@
-use Rattle.std.proofs.Common.{◌≡◌, sym, ap, ◌∙◌, is_some, true≢false}
-use Rattle.std.proofs.lemmas.Option.{slice_get_within}
+use Rattle.std.proofs.Common.{sym, ap, ◌∙◌, is_some, true≢false}
 use Rattle.shard_core.specs.Room.{Stored}
 use Rattle.shard_core.proofs.Answering.{part_seen, unseen}
 use Rattle.shard_core.proofs.shard.Shard.node.Goals as goal
