@@ -22,7 +22,7 @@ use Rattle.shard_core.specs.declared.answers.ShardFault.TheVariants.{Spent}
 use Rattle.shard_core.specs.declared.answers.Dropped.TheVariants.{Kept, Removed}
 use Rattle.shard_core.specs.Interning.{IsSpent, Interns, Drops}
 use Rattle.shard_core.specs.Listed.{LacksKey}
-use Rattle.shard_core.specs.Room.{Stored, Room, Keeps, IsSound, node_at, room_of, with_node}
+use Rattle.shard_core.specs.Room.{Stored, Room, HasNode, IsSound, node_at, room_of, with_node}
 use Rattle.shard_core.specs.Room.{with_new}
 use Rattle.shard_core.specs.Room.{without}
 use Rattle.shard_core.proofs.RoomMaps.{get_of, keeps_at, set_seen, take_seen, push_seen, absent_key}
@@ -75,7 +75,7 @@ raised room next es es' i n k c res sound apart at full more =
           let f = full (omega (arith, same)) in (
             subst (λ (x : Result Interned ShardFault). Interns r k x (room_of room next es')) (sym f.0)
                 (subst (λ (l : Entries). Interns r k (Err (Spent MAX_COUNT)) (room_of room next l)) (sym f.1)
-                (inr (n, subst (λ (x : ℕ). Keeps r n k x) same keeps, refl), refl)),
+                (inr (n, subst (λ (x : ℕ). HasNode r n k x) same keeps, refl), refl)),
             subst (λ (l : Entries). IsSound (room_of room next l)) (sym f.1) sound,
           )
       | inr differs ↦
@@ -141,7 +141,7 @@ pub kept : (room next : ℕ) (es es' : Entries) (i n : ℕ) (s : Stored) (count 
 kept room next es es' i n s count sound apart at is above after =
     let r = room_of room next es in
     let same = told es i n s count at is in
-    let keeps : Keeps r n s.key count = keeps_at room next es i n s apart at
+    let keeps : HasNode r n s.key count = keeps_at room next es i n s apart at
     ∙ ap (λ (x : ℕ). Some (node s.key x)) same in
     let here = sound.placed n s.key count keeps in
     let eq : room_of room next es' ≡ with_node r n s.key (count - 1) =
@@ -165,7 +165,7 @@ removed room next es es' i n s count k sound apart at is low key after =
     let kept = keeps_at room next es i n s apart at in
     let here = sound.placed n s.key s.count kept in
     let one : s.count ≡ 1 = omega (arith, same, low, here.least) in
-    let keeps : Keeps r n k 1 = kept ∙ (λ j. Some (node (sym key j) (one j))) in
+    let keeps : HasNode r n k 1 = kept ∙ (λ j. Some (node (sym key j) (one j))) in
     let eq : room_of room next es' ≡ without r n =
     ap (λ (l : Entries). room_of room next l) after
     ∙ ap (λ (m : map.FinMap nat_cmp Stored). let x : Room = record { room = room; next = next; nodes = m }

@@ -6,7 +6,7 @@ use Rattle.std.specs.FinMap.{get-insert, get-remove, get-empty}
 use Rattle.std.specs.Ordering.{nat_cmp}
 use Rattle.node_key.specs.Examples.{leaf_of_three}
 use Rattle.node_key.specs.declared.key.NodeKey.{NodeKey}
-use Rattle.shard_core.specs.Room.{IsThere, Keeps, node_at, next_number, without}
+use Rattle.shard_core.specs.Room.{IsThere, HasNode, node_at, next_number, without}
 use Rattle.shard_core.specs.Examples.{one_left, last_given, last_number, counted}
 
 -- a room without nodes has no key
@@ -27,7 +27,7 @@ elsewhere =
     3
     ∙ get-empty nat_cmp 3
 
-pub counted_at : (c : ℕ) → Keeps (counted c) last_number leaf_of_three c
+pub counted_at : (c : ℕ) → HasNode (counted c) last_number leaf_of_three c
 counted_at c =
     get-insert nat_cmp_total last_given.nodes last_number (record { key = leaf_of_three; count = c })
     last_number

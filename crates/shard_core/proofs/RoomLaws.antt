@@ -6,7 +6,7 @@ use Rattle.shard_core.specs.declared.limits.TheConstants.{MAX_COUNT}
 use Rattle.shard_core.specs.declared.answers.Interned.TheVariants.{Known, New}
 use Rattle.shard_core.specs.declared.answers.ShardFault.TheVariants.{Memory, Spent}
 use Rattle.shard_core.specs.declared.answers.Dropped.TheVariants.{Kept, Removed}
-use Rattle.shard_core.specs.Room.{Stored, Room, Keeps, IsSound, node_at, next_number}
+use Rattle.shard_core.specs.Room.{Stored, Room, HasNode, IsSound, node_at, next_number}
 use Rattle.shard_core.specs.Laws.{InternsNeverLowerNext, DropsKeepNext, NewNumbersAreFresh, SpentByItsCauses}
 use Rattle.shard_core.specs.Laws.{NewNumbersRise}
 
@@ -38,7 +38,8 @@ new_numbers_are_fresh old new k n sound h = (
 )
 
 -- a key has one count
-one_count : (r : Room) (m n : ℕ) (k : NodeKey) (c d : ℕ) → IsSound r → Keeps r m k c → Keeps r n k d → c ≡ d
+one_count : (r : Room) (m n : ℕ) (k : NodeKey) (c d : ℕ) → IsSound r → HasNode r m k c → HasNode r n k d
+    → c ≡ d
 one_count r m n k c d sound a b =
     let same = sound.keys_differ m n k c d a b in
     let x : Stored = record { key = k; count = c } in

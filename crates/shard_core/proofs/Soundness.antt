@@ -12,7 +12,7 @@ use Rattle.node_key.specs.Rooms.{room}
 use Rattle.node_key.specs.declared.key.NodeKey.{NodeKey}
 use Rattle.node_key.specs.declared.limits.TheConstants.{MAX_NUMBERS, STORE_ROOMS}
 use Rattle.shard_core.specs.declared.limits.TheConstants.{MAX_COUNT}
-use Rattle.shard_core.specs.Room.{Stored, Room, Keeps, IsThere, IsSound, with_node, with_new}
+use Rattle.shard_core.specs.Room.{Stored, Room, HasNode, IsThere, IsSound, with_node, with_new}
 use Rattle.shard_core.specs.Room.{without}
 use Rattle.shard_core.specs.Room.{next_number}
 use Rattle.shard_core.proofs.RoomMaps.{tie}
@@ -40,7 +40,7 @@ left_cases nodes n m t is = by_removal t (map.get nodes m) _ (sym (get-remove na
 abbrev node : NodeKey → ℕ → Stored
 node k c = record { key = k; count = c }
 
-pub IsSound-with_node : (r : Room) (n : ℕ) (k : NodeKey) (b c : ℕ) → IsSound r → Keeps r n k b → 1 ≤ c
+pub IsSound-with_node : (r : Room) (n : ℕ) (k : NodeKey) (b c : ℕ) → IsSound r → HasNode r n k b → 1 ≤ c
     → c ≤ MAX_COUNT → IsSound (with_node r n k c)
 IsSound-with_node r n k b c sound keeps least most = record {
   room = sound.room;

@@ -30,12 +30,12 @@ abbrev pub node_at : Room → ℕ → Option Stored
 node_at r n = map.get r.nodes n
 
 -- under this number the room keeps this key with this count
-abbrev pub Keeps : Room → ℕ → NodeKey → ℕ → Type 0
-Keeps r n k c = node_at r n ≡ Some (record { key = k; count = c })
+abbrev pub HasNode : Room → ℕ → NodeKey → ℕ → Type 0
+HasNode r n k c = node_at r n ≡ Some (record { key = k; count = c })
 
 -- the room keeps this key
 abbrev pub IsThere : Room → NodeKey → Type 0
-IsThere r k = (n : ℕ) × (c : ℕ) × Keeps r n k c
+IsThere r k = (n : ℕ) × (c : ℕ) × HasNode r n k c
 
 -- the room with this key and count under a number, all else as it was
 abbrev pub with_node : Room → ℕ → NodeKey → ℕ → Room
@@ -69,8 +69,8 @@ pub record IsPlaced (r : Room) (n : ℕ) (k : NodeKey) (c : ℕ) : Type 0 where
 pub record IsSound (r : Room) : Type 0 where
   pub room : r.room < STORE_ROOMS
   pub next : r.next ≤ MAX_NUMBERS
-  pub placed : (n : ℕ) (k : NodeKey) (c : ℕ) → Keeps r n k c → IsPlaced r n k c
-  pub keys_differ : (m n : ℕ) (k : NodeKey) (c d : ℕ) → Keeps r m k c → Keeps r n k d → m ≡ n
+  pub placed : (n : ℕ) (k : NodeKey) (c : ℕ) → HasNode r n k c → IsPlaced r n k c
+  pub keys_differ : (m n : ℕ) (k : NodeKey) (c d : ℕ) → HasNode r m k c → HasNode r n k d → m ≡ n
 
 -- rooms are stored as the tuple of their fields
 abbrev pub stored_code : Coded Stored
