@@ -7,7 +7,7 @@ use Rattle.trace_base.specs.declared.profile.PathRow.{PathRow}
 use Rattle.trace_base.specs.declared.profile.Profile.{Profile}
 use Rattle.trace_base.specs.declared.profile.Row.{Row}
 use Rattle.profile_math.specs.Closing.{closed, closed_rows}
-use Rattle.profile_math.specs.Examples.{row_of_path, row}
+use Rattle.profile_math.specs.Examples.{path_line, row}
 use Rattle.profile_math.specs.InOrder.{in_order}
 use Rattle.profile_math.specs.PathClosing.{closed_paths}
 use Rattle.profile_math.specs.PathSum.{numbers_of, by_path, sum_of_paths, IsDepthFirst, PathRowFits}
@@ -74,9 +74,9 @@ one_depth_first r e = record {
 }
 
 abbrev short_call : List PathRow
-short_call = row_of_path 1 2 1 4 4 ∷ []
+short_call = path_line 1 2 1 4 4 ∷ []
 
-pub nested_depth_first : (rows : List PathRow) → rows ≡ row_of_path 1 2 1 5 2 ∷ row_of_path 2 1 1 3 3 ∷ []
+pub nested_depth_first : (rows : List PathRow) → rows ≡ path_line 1 2 1 5 2 ∷ path_line 2 1 1 3 3 ∷ []
     → IsDepthFirst rows
 unfolding IsStrictlySortedBy numbers_of
 nested_depth_first rows e = subst IsDepthFirst (sym e)
@@ -86,19 +86,19 @@ pair_fits : (bare d f c1 i1 e1 h g c2 i2 e2 : ℕ) → bare ≤ 99 → d ≤ 99 
     → c2 ≤ 99 → i2 ≤ 99 → e2 ≤ 99
     → PathProfileFits (record {
       bare = bare;
-      rows = row_of_path d f c1 i1 e1 ∷ row_of_path h g c2 i2 e2
+      rows = path_line d f c1 i1 e1 ∷ path_line h g c2 i2 e2
           ∷ [];
     })
 pair_fits bare d f c1 i1 e1 h g c2 i2 e2 l1 l2 l3 l4 l5 l6 l7 l8 l9 = (
   omega arith,
-  All-cons PathRowFits (row_of_path d f c1 i1 e1) (row_of_path h g c2 i2 e2 ∷ [])
+  All-cons PathRowFits (path_line d f c1 i1 e1) (path_line h g c2 i2 e2 ∷ [])
       (omega arith, omega arith, omega arith, omega arith)
-      (All-cons PathRowFits (row_of_path h g c2 i2 e2) []
+      (All-cons PathRowFits (path_line h g c2 i2 e2) []
       (omega arith, omega arith, omega arith, omega arith) (All-nil PathRowFits)),
 )
 
-pub sum_fits : (p q : PathProfile) → p ≡ record { bare = 1; rows = row_of_path 1 2 1 4 4 ∷ [] }
-    → q ≡ record { bare = 2; rows = row_of_path 1 2 1 5 2 ∷ row_of_path 2 1 1 3 3 ∷ [] }
+pub sum_fits : (p q : PathProfile) → p ≡ record { bare = 1; rows = path_line 1 2 1 4 4 ∷ [] }
+    → q ≡ record { bare = 2; rows = path_line 1 2 1 5 2 ∷ path_line 2 1 1 3 3 ∷ [] }
     → PathProfileFits (sum_of_paths p q)
 unfolding in_order numbers_of by_path sum_of_paths
 sum_fits p q e g = subst (λ (x : PathProfile). PathProfileFits (sum_of_paths x q)) (sym e)
@@ -107,7 +107,7 @@ sum_fits p q e g = subst (λ (x : PathProfile). PathProfileFits (sum_of_paths x 
     (pair_fits 3 1 2 2 9 6 2 1 1 3 3 (omega arith) (omega arith) (omega arith) (omega arith) (omega arith)
     (omega arith) (omega arith) (omega arith) (omega arith)))
 
-pub closing_fits : (p : PathProfile) → p ≡ record { bare = 3; rows = row_of_path 1 2 1 4 4 ∷ [] }
+pub closing_fits : (p : PathProfile) → p ≡ record { bare = 3; rows = path_line 1 2 1 4 4 ∷ [] }
     → PathProfileFits (closed_paths 2 true p)
 unfolding numbers_of closed_paths
 closing_fits p e = subst (λ (x : PathProfile). PathProfileFits (closed_paths 2 true x)) (sym e)

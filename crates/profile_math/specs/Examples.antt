@@ -20,8 +20,8 @@ evens = record { bare = 1; rows = row 2 1 4 3 ∷ row 4 2 2 1 ∷ [] }
 abbrev pub odds : Profile
 odds = record { bare = 2; rows = row 1 1 9 8 ∷ row 3 0 1 1 ∷ row 5 1 0 0 ∷ [] }
 
-abbrev pub row_of_path : ℕ → ℕ → ℕ → ℕ → ℕ → PathRow
-row_of_path depth f calls incl excl = record {
+abbrev pub path_line : ℕ → ℕ → ℕ → ℕ → ℕ → PathRow
+path_line depth f calls incl excl = record {
   depth = depth;
   func = f;
   calls = calls;
@@ -37,7 +37,7 @@ no_paths = record { bare = 0; rows = [] }
 abbrev pub recursive : PathProfile
 recursive = record {
   bare = 1;
-  rows = row_of_path 1 1 1 5 3 ∷ row_of_path 2 1 1 2 2 ∷ row_of_path 1 2 1 4 4
+  rows = path_line 1 1 1 5 3 ∷ path_line 2 1 1 2 2 ∷ path_line 1 2 1 4 4
       ∷ [];
 }
 
@@ -45,5 +45,5 @@ recursive = record {
 abbrev pub calls_both_ways : PathProfile
 calls_both_ways = record {
   bare = 2;
-  rows = row_of_path 1 1 1 9 8 ∷ row_of_path 2 2 1 1 1 ∷ row_of_path 1 2 0 6 0 ∷ row_of_path 2 1 3 6 6 ∷ [];
+  rows = path_line 1 1 1 9 8 ∷ path_line 2 2 1 1 1 ∷ path_line 1 2 0 6 0 ∷ path_line 2 1 3 6 6 ∷ [];
 }

@@ -3,7 +3,7 @@
 ghost use Rattle.std.specs.Prelude.{◌≡◌, true, false, [], ◌∷◌};
 ghost use Rattle.profile_math.specs.Closing.{closed};
 ghost use Rattle.profile_math.specs.Examples.{row, nothing, evens, odds};
-ghost use Rattle.profile_math.specs.Examples.{row_of_path, no_paths, recursive, calls_both_ways};
+ghost use Rattle.profile_math.specs.Examples.{path_line, no_paths, recursive, calls_both_ways};
 ghost use Rattle.profile_math.specs.PathClosing.{closed_paths};
 ghost use Rattle.profile_math.specs.PathSum.{sum_of_paths};
 ghost use Rattle.profile_math.specs.Sum.{sum_of};
@@ -60,12 +60,12 @@ pub fn sums_of_small_path_profiles()
     ensures right { sum_of_paths recursive no_paths ≡ recursive }
     ensures both { sum_of_paths recursive calls_both_ways ≡ record {
       bare = 3;
-      rows = row_of_path 1 1 2 14 11 ∷ row_of_path 2 1 1 2 2 ∷ row_of_path 2 2 1 1 1
-          ∷ row_of_path 1 2 1 10 4 ∷ row_of_path 2 1 3 6 6 ∷ [];
+      rows = path_line 1 1 2 14 11 ∷ path_line 2 1 1 2 2 ∷ path_line 2 2 1 1 1
+          ∷ path_line 1 2 1 10 4 ∷ path_line 2 1 3 6 6 ∷ [];
     } }
     ensures same { sum_of_paths recursive recursive ≡ record {
       bare = 2;
-      rows = row_of_path 1 1 2 10 6 ∷ row_of_path 2 1 2 4 4 ∷ row_of_path 1 2 2 8 8 ∷ [];
+      rows = path_line 1 1 2 10 6 ∷ path_line 2 1 2 4 4 ∷ path_line 1 2 2 8 8 ∷ [];
     } }
 {}
 
@@ -74,13 +74,13 @@ pub fn sums_of_small_path_profiles()
 pub fn closings_of_small_path_profiles()
     ensures known { closed_paths 1 true recursive ≡ record {
       bare = 0;
-      rows = row_of_path 1 1 1 10 1 ∷ row_of_path 2 1 1 5 3 ∷ row_of_path 3 1 1 2 2 ∷ row_of_path 2 2 1 4 4
+      rows = path_line 1 1 1 10 1 ∷ path_line 2 1 1 5 3 ∷ path_line 3 1 1 2 2 ∷ path_line 2 2 1 4 4
           ∷ [];
     } }
-    ensures begun { closed_paths 3 true no_paths ≡ record { bare = 0; rows = row_of_path 1 3 1 0 0 ∷ [] } }
+    ensures begun { closed_paths 3 true no_paths ≡ record { bare = 0; rows = path_line 1 3 1 0 0 ∷ [] } }
     ensures not_begun { closed_paths 3 false no_paths ≡ no_paths }
     ensures bare { closed_paths 3 false (record { bare = 4; rows = [] }) ≡ record {
       bare = 0;
-      rows = row_of_path 1 3 0 4 4 ∷ [];
+      rows = path_line 1 3 0 4 4 ∷ [];
     } }
 {}
