@@ -21,16 +21,24 @@ LIMIT = 20
 
 with open(os.path.join(TOP, "examples", "first.session"), "rb") as example:
     FIRST = example.read()
-HEAD = FIRST[len(b"PUT 697\n"):][:593]
-CALL = '2 0 p0 P 0 "rank 0"\n4 0 S p0 main\n5 0.5 S p0\n3 0.5 P p0\n'
+FIRST_TEXT = FIRST[len(b"PUT 697\n"):][:697]
+# The definitions of six events, and with them a type of containers and one of states: 33 and 35 lines.
+DEFINITIONS = FIRST_TEXT[:567]
+HEAD = FIRST_TEXT[:593]
+RANK = '2 0 p0 P 0 "rank 0"\n'
+CALL = RANK + "4 0 S p0 main\n5 0.5 S p0\n3 0.5 P p0\n"
 FIRST_REPLIES = (b"OK PUT 1 1 2 0 @3\nOK FLAT 2 1 0 @4\n1 1 500000000 300000000 main\n"
                  b"2 2 200000000 200000000 f\nOK QUIT\n")
 
 
-def put(lines):
-    """A PUT of a small text with these lines behind its head."""
-    text = HEAD + lines.encode()
+def put_text(text):
+    """A PUT of this text."""
     return b"PUT %d\n" % len(text) + text
+
+
+def put(lines):
+    """A PUT of a text with these lines behind its head."""
+    return put_text(HEAD + lines.encode())
 
 
 def calls(count):
@@ -39,9 +47,10 @@ def calls(count):
     return '2 0 p0 P 0 "n"\n' + inside + "3 1 P p0\n"
 
 
-def short_calls(count, name):
-    """The lines of a container of this name with so many calls one after the other, each from 0 to 0."""
-    return '2 0 p0 P 0 "%s"\n' % name + "4 0 S p0 f\n5 0 S p0\n" * count + "3 1 P p0\n"
+def calls_of_f(begins, ends):
+    """The lines of a call of main from 0 to 1 in which f is called from each of these times to each."""
+    inside = "".join("4 0.%s S p0 f\n5 0.%s S p0\n" % pair for pair in zip(begins, ends))
+    return RANK + "4 0 S p0 main\n" + inside + "5 1 S p0\n3 1 P p0\n"
 
 
 # p0: main from 0 to 4. p1: main from 1 to 5, in it work from 2 to 3. p2: work from 1 to 2 and from 6 to 8.
@@ -64,46 +73,184 @@ THREE_TRACKS = '''\
 3 8 P p2
 '''
 
-# Texts that miss the small form by one thing each.
-UNBUILT = {
-    "a second space": CALL.replace("4 0 S", "4 0  S"),
-    "a time of 11 digits": CALL.replace("4 0 S", "4 00000000000 S"),
-    "a time above 2^62": CALL.replace("0.5", "4611686018.427387905"),
-    "a time that falls": CALL.replace("3 0.5", "3 0.4"),
-    "a leave with no call": CALL.replace("3 0.5", "5 0.5 S p0\n3 0.5"),
-    "a 257th open call": calls(257),
-    "a container never destroyed": CALL.replace("3 0.5 P p0\n", ""),
-    "destroyed with an open call": CALL.replace("5 0.5 S p0\n", ""),
-    "destroyed twice": CALL + "3 0.5 P p0\n",
-    "without an enter": '2 0 p0 P 0 "n"\n3 1 P p0\n',
-    "a name of 33 letters": CALL.replace("main", "m" * 33),
-    "a last line without its newline": CALL[:-1],
+# Three messages begin and two end, of the keys k1 and k2.
+MESSAGES = '''\
+%EventDef PajeDefineLinkType 6
+% Alias string
+% Type string
+% SourceContainerType string
+% DestContainerType string
+% Name string
+%EndEventDef
+%EventDef PajeStartLink 7
+% Time date
+% Type string
+% Container string
+% Value string
+% SourceContainer string
+% Key string
+% Size int
+%EndEventDef
+%EventDef PajeEndLink 8
+% Time date
+% Type string
+% Container string
+% Value string
+% DestContainer string
+% Key string
+%EndEventDef
+0 P 0 Process
+6 K P P P Msg
+2 0 p0 P 0 a
+2 0 p1 P 0 b
+7 1 K 0 x p0 k1 100
+7 2 K 0 x p0 k1 50
+8 1.5 K 0 x p1 k1
+7 3 K 0 x p1 k2 7
+8 2.5 K 0 x p0 k2
+'''
+
+# SetState, ResetState, a second PushState with a field more, and a destruction by the field Container; tabs,
+# lines that are skipped, and a carriage return at each line's end. main runs from 0 to 0.2, f to 0.5.
+OTHER_FORMS = '''\
+# more definitions
+%EventDef PajeSetState 8
+% Time date
+% Type string
+% Container string
+% Value string
+%EndEventDef
+\t
+%EventDef\tPajeResetState 9
+% Time date
+% Type string
+% Container string
+%EndEventDef
+%EventDef PajeDestroyContainer 10
+% Time date
+% Type string
+% Container string
+%EndEventDef
+%EventDef PajePushState 11
+% Time date
+% Type string
+% Container string
+% Value string
+% Line int
+%EndEventDef
+2 0 p0 P 0 "rank 0"
+8 0\tS\tp0 main
+\t# one line more
+ 8 0.2 S "p0" f  more
+11 0.5 S p0 g 12
+5 0.5 S p0
+9 0.5 S p0
+10 1 P p0
+'''.replace("\n", "\r\n")
+
+# Lines behind the head of a text, with the first that is refused, and the word of its reason.
+REFUSED_LINES = {
+    "a leave with no call in the first line": (RANK + "5 0 S p0\n", "37 EmptyPop"),
+    "a leave with no call": (CALL.replace("3 0.5", "5 0.5 S p0\n3 0.5"), "39 EmptyPop"),
+    "a second container of one alias": (RANK + '4 0 S p0 "my func"\n2 0 p0 P 0 x\n', "38 DoubleAlias"),
+    "a 257th open call": (calls(257), "293 Deep"),
+    "an open quote": ('2 0 p0 P 0 "a\n', "36 OpenQuote"),
+    "no date": (CALL.replace("4 0 S", "4 x S"), "37 DateShape"),
+    "a time below 0": (CALL.replace("4 0 S", "4 -1 S"), "37 DateNegative"),
+    "a time above 2^62": (CALL.replace("0.5", "4611686018.427387905"), "38 DateBig"),
+    "a time that falls": (CALL.replace("3 0.5", "3 0.4"), "39 TimeBack"),
+    "destroyed twice": (CALL + "3 0.5 P p0\n", "40 AfterDestroy"),
+    "a container that isn't there": (CALL.replace("S p0 main", "S p1 main"), "37 UnknownEntity"),
+    "a call of a type of containers": (CALL.replace("S p0 main", "P p0 main"), "37 WrongKind"),
+    "an event that isn't defined": (CALL.replace("4 0 S", "9 0 S"), "37 UnknownNumber"),
+    "no number of an event": (CALL.replace("4 0 S", "x 0 S"), "37 NoNumber"),
+    "a field too few": (CALL.replace("4 0 S p0 main", "4 0 S p0"), "37 TooFew"),
+    "no date in a line with a field too few": (CALL.replace("4 0 S p0 main", "4 x S p0"), "37 TooFew"),
+    "a refused line behind another": (CALL.replace("4 0", "9 0").replace("5 0.5", "x 0.5"),
+                                      "37 UnknownNumber"),
+    "a refused last line without its newline": (CALL + "9 1", "40 UnknownNumber"),
+    "a number that is defined": ("%EventDef PajePopState 5\n", "36 DoubleNumber"),
+}
+
+# Whole texts, likewise.
+REFUSED_TEXTS = {
+    "a line of 65,537 bytes": (b"#" * 65537 + b"\n", b"1 LongLine"),
+    "a line of 65,537 bytes with its carriage return": (b"#" * 65536 + b"\r\n", b"1 LongLine"),
+    "the byte 255": (b"\xff\n", b"1 NotText"),
+    "a definition that isn't ended": (b"%EventDef PajePopState 5\n", b"2 Unended"),
+    "an event in a definition": (b"%EventDef PajePopState 5\n5 1 S p0\n", b"2 Unended"),
+    "a definition inside another": (b"%EventDef PajePopState 5\n%EventDef PajePopState 6\n", b"2 Nested"),
+    "a definition without a number": (b"\n%EventDef PajePopState\n", b"2 Shape"),
+    "an event of no known name": (b"#\n \n%EventDef PajePop 5\n", b"3 UnknownName"),
+    "a field of no known type": (b"%EventDef PajePopState 5\n% Time hour\n", b"2 UnknownType"),
+    "a field that is missing": (b"%EventDef PajePopState 5\n% Time date\n%EndEventDef\n", b"3 MissingField"),
+    "two letters": (b"ab", b"1 NoNumber"),
+}
+
+# Lines behind the head of a text, of which none is refused, with the numbers of tracks and functions.
+TAKEN_LINES = {
+    "a second space": (CALL.replace("4 0 S", "4  0 S"), b"1 1"),
+    "a time of 11 digits": (CALL.replace("4 0 S", "4 00000000000 S"), b"1 1"),
+    "the greatest time": (CALL.replace("0.5", "4611686018.427387904"), b"1 1"),
+    "a container never destroyed": (CALL.replace("3 0.5 P p0\n", ""), b"1 1"),
+    "destroyed with an open call": (CALL.replace("5 0.5 S p0\n", ""), b"1 1"),
+    "a name of 33 letters": (CALL.replace("main", "m" * 33), b"1 1"),
+    "a name of two words": (CALL.replace("main", '"my func"'), b"1 1"),
+    "a last line without its newline": (CALL[:-1], b"1 1"),
+    "256 open calls": (calls(256), b"1 1"),
 }
 
 # Sessions, each with its replies and its status. QUIT and its reply are added where the status is 0.
 SESSIONS = {
-    "a text of two letters": (b"PUT 2\nab", b"NO 29\n"),
     "a line that is no request": (b"LIST\n", b"NO 10\n"),
     "a trace that isn't open": (b"FLAT 7 * 0 1\n", b"NO 30 7 @1\n"),
     "a leading zero, a space too many, an empty line": (b"FLAT 01 * 0 5\nLIST \n\n", b"NO 10\n" * 3),
     "a line of 4,097 bytes": (b"x" * 4097 + b"\nFLAT 7 * 0 1\n", b"NO 10\nNO 30 7 @1\n"),
     "a line of 1,000,000 bytes": (b"x" * 1000000 + b"\nFLAT 7 * 0 1\n", b"NO 10\nNO 30 7 @1\n"),
-    "a text that is too long is read as lines": (b"PUT 65537\nLIST\nFLAT 7 * 0 1\n",
-                                                 b"NO 10\nNO 10\nNO 30 7 @1\n"),
-    "256 open calls": (put(calls(256)), b"OK PUT 1 1 1 0 @3\n"),
+    "no text": (b"PUT 0\n", b"OK PUT 1 0 0 0 @2\n"),
+    "a length of 2^64": (b"PUT 18446744073709551616\nFLAT 7 * 0 1\n", b"NO 10\nNO 30 7 @1\n"),
+    "a text that is too large, of newlines": (b"PUT 67108865\n" + b"\n" * 67108865 + b"FLAT 7 * 0 1\n",
+                                              b"NO 21\nNO 30 7 @1\n"),
+    "a text at the greatest length": (put_text((b"#" * 65535 + b"\n") * 1024), b"OK PUT 1 0 0 0 @2\n"),
+    "a line of 65,536 bytes": (put_text(b"#" * 65536 + b"\n"), b"OK PUT 1 0 0 0 @2\n"),
+    "256 calls that stay open": (put(RANK + "4 0 S p0 f\n" * 256) + b"FLAT 1 * 0 1\n",
+                                 b"OK PUT 1 1 1 0 @3\nOK FLAT 1 1 0 @4\n1 256 0 0 f\n"),
+    "nine calls": (put(calls_of_f(["%d0" % i for i in range(1, 10)], ["%d5" % i for i in range(1, 10)]))
+                   + b"FLAT 1 * 0 1000000000\n",
+                   b"OK PUT 1 1 2 0 @3\nOK FLAT 2 1 0 @4\n1 1 1000000000 550000000 main\n"
+                   b"2 9 450000000 450000000 f\n"),
+    "65 calls": (put(calls_of_f(range(10, 75), ["%d5" % i for i in range(10, 75)]))
+                 + b"FLAT 1 * 0 1000000000\n",
+                 b"OK PUT 1 1 2 0 @3\nOK FLAT 2 1 0 @4\n1 1 1000000000 675000000 main\n"
+                 b"2 65 325000000 325000000 f\n"),
+    "f in f, with exponents": (put(RANK + "4 0 S p0 f\n4 2e-9 S p0 f\n5 4e-9 S p0\n5 1e-8 S p0\n"
+                                   "3 1e-8 P p0\n")
+                               + b"FLAT 1 * 0 10\n",
+                               b"OK PUT 1 1 1 0 @3\nOK FLAT 1 1 0 @4\n1 2 10 10 f\n"),
+    "calls of no time": (put(RANK + "4 1e-8 S p0 g\n5 1e-8 S p0\n4 2e-8 S p0 g\n5 2e-8 S p0\n3 1e-7 P p0\n")
+                         + b"FLAT 1 * 10 20\n",
+                         b"OK PUT 1 1 1 0 @3\nOK FLAT 1 1 10 @4\n1 1 0 0 g\n"),
+    # main is open up to the greatest time, at which p2 is created.
+    "containers that aren't destroyed": (put("2 0 p0 P 0 a\n2 0 p1 P 0 b\n4 0 S p0 main\n2 2 p2 P 0 c\n")
+                                         + b"FLAT 1 * 0 3000000000\n",
+                                         b"OK PUT 1 1 1 0 @3\nOK FLAT 1 1 0 @4\n"
+                                         b"1 1 2000000000 2000000000 main\n"),
+    "messages": (put_text(DEFINITIONS + MESSAGES.encode()) + b"FLAT 1 * 0 1\n",
+                 b"OK PUT 1 0 0 2 @2\nOK FLAT 0 0 0 @3\n"),
+    "other forms of lines": (put(OTHER_FORMS) + b"FLAT 1 * 0 1000000000\n",
+                             b"OK PUT 1 1 3 0 @3\nOK FLAT 3 1 500000000 @4\n1 1 200000000 200000000 main\n"
+                             b"2 1 300000000 300000000 f\n3 1 0 0 g\n"),
     "a PUT behind a refused one": (b"PUT 2\nab" + put(CALL) + put(CALL),
-                                   b"NO 29\nOK PUT 1 1 1 0 @3\nOK PUT 2 1 1 0 @6\n"),
-    "the most traces": (put("") * 1025 + b"FLAT 2 * 0 1\n",
+                                   b"NO 20 1 NoNumber\nOK PUT 1 1 1 0 @3\nOK PUT 2 1 1 0 @6\n"),
+    "the most traces": (b"PUT 0\n" * 1025 + b"PUT 2\nabFLAT 2 * 0 1\n",
                         b"".join(b"OK PUT %d 0 0 0 @%d\n" % (i, 2 * i) for i in range(1, 1025))
-                        + b"NO 36 1024 @2049\nOK FLAT 0 0 0 @2050\n"),
+                        + b"NO 36 1024 @2049\nNO 20 1 NoNumber\nOK FLAT 0 0 0 @2050\n"),
     # From 1.5 to 7 main is open for 2.5 and 3.5, of which 1 is work's; work for 1, and for 0.5 and 1 in p2.
     "two FLATs over three tracks": (put(THREE_TRACKS)
                                     + b"FLAT 1 * 1500000000 7000000000\nFLAT 1 * 0 1000000000\n",
                                     b"OK PUT 1 3 2 0 @5\nOK FLAT 2 3 9000000000 @6\n"
                                     b"1 0 6000000000 5000000000 main\n2 2 2500000000 2500000000 work\n"
                                     b"OK FLAT 1 3 2000000000 @7\n1 1 1000000000 1000000000 main\n"),
-    "a text of 65,000 bytes": (put(short_calls(3219, "rank")) + b"FLAT 1 * 0 1\n",
-                               b"OK PUT 1 1 1 0 @3\nOK FLAT 1 1 1 @4\n1 3219 0 0 f\n"),
 }
 
 
@@ -126,14 +273,22 @@ def run(words, text, stdout=subprocess.PIPE, program=PROGRAM, **how):
 def sessions():
     """The name of each session, its words, its input, what is written, and the status."""
     yield "the first session", ["batch"], FIRST, FIRST_REPLIES, 0
-    for name, lines in UNBUILT.items():
-        yield name, ["batch"], put(lines) + b"QUIT\n", b"NO 29\nOK QUIT\n", 0
+    for name, (lines, told) in REFUSED_LINES.items():
+        yield name, ["batch"], put(lines) + b"QUIT\n", b"NO 20 %s\nOK QUIT\n" % told.encode(), 0
+    for name, (text, told) in REFUSED_TEXTS.items():
+        yield name, ["batch"], put_text(text) + b"QUIT\n", b"NO 20 %s\nOK QUIT\n" % told, 0
+    for name, (lines, counts) in TAKEN_LINES.items():
+        yield name, ["batch"], put(lines) + b"QUIT\n", b"OK PUT 1 %s 0 @3\nOK QUIT\n" % counts, 0
     for name, (text, replies) in SESSIONS.items():
         yield name, ["batch"], text + b"QUIT\n", replies + b"OK QUIT\n", 0
         yield name + ", and the end", ["batch"], text, replies, 0
     yield "no input", ["batch"], b"", b"", 0
     yield "a line that is cut", ["batch"], b"LIST\nLIS", b"NO 10\n", 6
     yield "a text that is cut", ["batch"], b"PUT 9\nshort", b"", 6
+    for end in range(497, 697):
+        yield "the first text cut at %d" % end, ["batch"], b"PUT 697\n" + FIRST_TEXT[:end], b"", 6
+    for length in b"67108865", b"18446744073709551615":
+        yield "a large text that is cut", ["batch"], b"PUT " + length + b"\nQUIT\n", b"", 6
     for words in [], ["batch", "x"], ["serve"], [NO_TEXT], ["batch", NO_TEXT]:
         yield "the words " + repr(words), words, b"", USAGE, 2
 

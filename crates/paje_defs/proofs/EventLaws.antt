@@ -1,10 +1,8 @@
 -- Which texts an event line has under the definitions.
 use Rattle.std.proofs.Common.{◌≡◌, ℕ, ◌+◌, ◌<◌, List, [], ◌∷◌, length, slice_get, nat_lt, cond, position}
-use Rattle.std.proofs.Common.{nat_eq, Bool, true, false, Option, Some, None, is_some, is_none, IfSome, Result}
+use Rattle.std.proofs.Common.{Bool, true, false, Option, Some, None, is_some, is_none, IfSome, Result}
 use Rattle.std.proofs.Common.{Ok, Err, refl, sym, ◌∙◌, ap, subst, arith}
 use Rattle.std.specs.List.{AllByRecursion, find, position_or_len}
-use Rattle.std.specs.Map.{lookup}
-use Rattle.indexmap.specs.IndexMap.{insert_entry}
 use Rattle.std.specs.Option.{IsSome, option_and_then, option_or}
 use Rattle.std.specs.Result.{is_ok, result_unwrap_or, IfOk}
 use Rattle.std.proofs.lemmas.Bool.{true≢false, ltb-true}
@@ -20,14 +18,14 @@ use Rattle.paje_defs.specs.declared.event_fault.EventFault.{EventFault}
 use Rattle.paje_defs.specs.declared.event_fault.EventFault.TheVariants as faults
 use Rattle.paje_defs.specs.declared.fields.Fields.{Fields}
 use Rattle.paje_defs.specs.declared.texts.Texts.{Texts}
-use Rattle.paje_defs.specs.Definition.{AreWhole, IsWhole, is_named, place_of, place_of_name}
+use Rattle.paje_defs.specs.Definition.{IsWhole, is_named, place_of, place_of_name}
 use Rattle.paje_defs.specs.Numbers.{event_number_of}
 use Rattle.paje_defs.specs.Role.{first_name, needed, second_name}
 use Rattle.paje_defs.specs.Lines.{definition_of}
 use Rattle.paje_defs.specs.Events.{Event, RolesStand, Tells, event_numbered, told_event, event_under}
 use Rattle.paje_defs.specs.Events.{role_text}
-use Rattle.paje_defs.specs.Events.{text_at, time_of_text, timed}
-use Rattle.paje_defs.specs.Texts.{HasNeeded, text_by_role}
+use Rattle.paje_defs.specs.Events.{time_of_text, timed}
+use Rattle.paje_defs.specs.Texts.{HasNeeded, text_at, text_by_role}
 
 -- ---- where a field stands
 
@@ -124,29 +122,6 @@ roles_stand entries words (Ok f) (told, wanted, time, are) e is = λ role.
     (place_within e.definition.event e.definition.fields role))
 
 -- ---- the roles that the event needs
-
-pub lookup_whole : (entries : List (ℕ × Definition)) (test : ℕ → Bool) → AreWhole entries
-    → IfSome (lookup test entries) IsWhole
-unfolding AreWhole
-lookup_whole [] test whole = tt
-lookup_whole (entry ∷ entries) test whole = by_test (test entry.0) (lookup_whole entries test whole.1)
-  where
-    by_test : (b : Bool) → IfSome (lookup test entries) IsWhole
-        → IfSome (cond b (Some entry.1) (lookup test entries)) IsWhole
-    by_test true later = whole.0
-    by_test false later = later
-
-pub insert_whole : (entries : List (ℕ × Definition)) (number : ℕ) (d : Definition) → AreWhole entries
-    → IsWhole d → AreWhole (insert_entry nat_eq entries number d)
-unfolding AreWhole
-insert_whole [] number d whole is = (is, tt)
-insert_whole (entry ∷ entries) number d whole is = by_test (nat_eq number entry.0)
-    (insert_whole entries number d whole.1 is)
-  where
-    by_test : (b : Bool) → AreWhole (insert_entry nat_eq entries number d)
-        → AreWhole (cond b ((entry.0, d) ∷ entries) (entry ∷ insert_entry nat_eq entries number d))
-    by_test true later = (is, whole.1)
-    by_test false later = (whole.0, later)
 
 none_missing : (event : EventName) (fields : List Field) (t : Texts) (asked : List Role)
     → ((role : Role) → is_some (text_by_role t role) ≡ is_some (place_of event fields role))

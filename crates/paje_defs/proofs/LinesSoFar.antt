@@ -6,7 +6,6 @@ use Rattle.std.specs.List.{find}
 use Rattle.std.specs.Option.{option_and_then, option_map, option_map_or, option_or, option_to_list}
 use Rattle.std.proofs.lemmas.Bool.{true≢false}
 use Rattle.std.proofs.lemmas.List.{append-nil}
-use Rattle.std.proofs.lemmas.List.Folds.{find-append}
 use Rattle.indexmap.proofs.MapLemmas.{absent_from_lookup, insert_entry-absent}
 use Rattle.paje_defs.specs.declared.role.Role.{Role}
 use Rattle.paje_defs.specs.declared.definition.Definition.{Definition}
@@ -15,76 +14,49 @@ use Rattle.paje_defs.specs.declared.def_fault.DefFault.{DefFault}
 use Rattle.paje_defs.specs.declared.def_fault.DefFault.TheVariants.{Shape, Nested, UnknownName, DoubleNumber}
 use Rattle.paje_defs.specs.declared.def_fault.DefFault.TheVariants.{UnknownType, MissingField, Memory}
 use Rattle.paje_defs.specs.Definition.{missing}
-use Rattle.paje_defs.specs.Lines.{Definitions, Line, Placed, begin_reason, begins_definition, begun_in}
+use Rattle.paje_defs.specs.Lines.{Definitions, Line, begin_reason, begins_definition, begun_in}
+use Rattle.paje_defs.specs.Refusals.{Placed}
 use Rattle.paje_defs.specs.Lines.{complete_in}
 use Rattle.paje_defs.specs.Lines.{defined_by, defined_event, defined_number, definitions_of_lines, end_reason}
 use Rattle.paje_defs.specs.Lines.{ends_definition, definition_entry, field_of, field_reason, field_type}
-use Rattle.paje_defs.specs.Lines.{first_line, first_of}
-use Rattle.paje_defs.specs.Lines.{first_refused, placed, reason, reason_at, refusal, taken, when}
+use Rattle.paje_defs.specs.Lines.{first_line}
+use Rattle.paje_defs.specs.Refusals.{first_of}
+use Rattle.paje_defs.specs.Lines.{definition_reason, definition_reason_at}
+use Rattle.paje_defs.specs.Refusals.{first_refused, refusal, taken, when}
 use Rattle.paje_defs.specs.Table.{TakesUnless, after, grown, with_ended}
-use Rattle.paje_defs.proofs.OneMoreLine.{begun-more, begun_after, complete-more, placed-more}
+use Rattle.paje_defs.proofs.OneMoreLine.{begun-more, begun_after, complete-more}
+use Rattle.paje_defs.proofs.PlacedMore.{refused-more}
+use Rattle.paje_defs.proofs.RefusedMore.{first-next, none_refused, refusal-next}
 use Rattle.paje_defs.proofs.TakenLines.{IsFresh, Lacks, is_refused, not_both, taken_fresh}
-
--- ---- the first refused line, among one more
-
-refused-more : (lines : List Line) (line : Line) → first_refused (lines ++ line ∷ []) ≡ option_or
-    (first_refused lines) (find is_refused (record { before = lines; line = line } ∷ []))
-refused-more lines line = ap (find is_refused) (placed-more lines line) ∙ find-append is_refused
-    (placed lines) (record { before = lines; line = line } ∷ [])
 
 abbrev pub all_of : List (ℕ × Definition) → Option Begun → Option DefFault → Definitions
 all_of entries begun fault = record { complete = entries; begun = begun; fault = fault }
 
 -- what is known, by the first refused line
-abbrev pub known : List Line → Option Placed → Definitions
+abbrev pub known : List Line → Option (Placed Line) → Definitions
 known lines first = all_of (complete_in (option_map_or (λ p. p.before) first lines))
-    (begun_in (option_map_or (λ p. p.before) first lines)) (option_and_then reason_at first)
+    (begun_in (option_map_or (λ p. p.before) first lines)) (option_and_then definition_reason_at first)
 
 -- Nothing changes behind a refused line.
-refused_stays : (lines : List Line) (line : Line) (first : Option Placed) (fault : DefFault)
-    → first_refused lines ≡ first → option_and_then reason_at first ≡ Some fault
+refused_stays : (lines : List Line) (line : Line) (first : Option (Placed Line)) (fault : DefFault)
+    → first_refused definition_reason_at lines ≡ first → option_and_then definition_reason_at first
+    ≡ Some fault
     → definitions_of_lines (lines ++ line ∷ []) ≡ definitions_of_lines lines
 refused_stays lines line None fault is e = absurd (true≢false (sym (ap is_some e)))
 refused_stays lines line (Some p) fault is e =
-    ap (known (lines ++ line ∷ [])) (refused-more lines line ∙ ap
+    ap (known (lines ++ line ∷ [])) (refused-more definition_reason_at lines line ∙ ap
     (λ first. option_or first (find is_refused (record { before = lines; line = line } ∷ []))) is)
     ∙ ap (known lines) (sym is)
 
--- the first that is found passes
-find_passes : {X : Type 0} (p : X → Bool) (xs : List X) → IfSome (find p xs) (λ x. p x ≡ true)
-find_passes p [] = tt
-find_passes p (x ∷ xs) = by (p x) refl (find_passes p xs)
-  where
-    by : (b : Bool) → p x ≡ b → IfSome (find p xs) (λ x. p x ≡ true) → IfSome (cond b (Some x) (find p xs))
-        (λ x. p x ≡ true)
-    by true e later = e
-    by false e later = later
-
-none_refused_by : (first : Option Placed) → IfSome first (λ p. is_refused p ≡ true)
-    → option_and_then reason_at first ≡ None → first ≡ None
-none_refused_by None passes e = refl
-none_refused_by (Some p) passes e = absurd (true≢false (sym passes ∙ ap is_some e))
-
-none_refused : (lines : List Line) → refusal lines ≡ None → first_refused lines ≡ None
-none_refused lines e = none_refused_by (first_refused lines) (find_passes is_refused (placed lines)) e
-
 -- ---- one more line, where none before it is refused
 
-one_more_is : (lines : List Line) (line : Line) (why : Option DefFault) → first_refused lines ≡ None
-    → reason_at (record { before = lines; line = line }) ≡ why
-    → first_refused (lines ++ line ∷ []) ≡ cond (is_some why) (Some (record { before = lines; line = line }))
-    None
-one_more_is lines line why none is =
-    refused-more lines line
-    ∙ (ap (λ first. option_or first (find is_refused (record { before = lines; line = line } ∷ []))) none
-    ∙ ap (λ why. cond (is_some why) (Some (record { before = lines; line = line })) None) is)
-
 -- it is the first refused line
-refused_next : (lines : List Line) (line : Line) (fault : DefFault) → first_refused lines ≡ None
-    → reason_at (record { before = lines; line = line }) ≡ Some fault
+refused_next : (lines : List Line) (line : Line) (fault : DefFault) → first_refused definition_reason_at lines
+    ≡ None
+    → definition_reason_at (record { before = lines; line = line }) ≡ Some fault
     → all_of (complete_in lines) (begun_in lines) (Some fault) ≡ definitions_of_lines (lines ++ line ∷ [])
 refused_next lines line fault none is =
-    sym (ap (known (lines ++ line ∷ [])) (one_more_is lines line (Some fault) none is)
+    sym (ap (known (lines ++ line ∷ [])) (first-next definition_reason_at lines line (Some fault) none is)
     ∙ ap (all_of (complete_in lines) (begun_in lines)) is)
 
 ended_goes_last : (entries : List (ℕ × Definition)) (begun : Option Begun) → Lacks entries begun
@@ -107,12 +79,13 @@ after_is entries begun grown line fault false true apart lacks = ap (λ entries.
 after_is entries begun grown line fault false false apart lacks = ap (λ entries. all_of entries grown fault)
     (sym (append-nil entries))
 
-taken_all : (lines : List Line) → first_refused lines ≡ None → taken lines ≡ lines
+taken_all : (lines : List Line) → first_refused definition_reason_at lines ≡ None → taken definition_reason_at
+    lines ≡ lines
 taken_all lines none = ap (λ first. option_map_or (λ p. p.before) first lines) none
 
 -- it is taken
-taken_next : (lines : List Line) (line : Line) → first_refused lines ≡ None
-    → reason_at (record { before = lines; line = line }) ≡ None
+taken_next : (lines : List Line) (line : Line) → first_refused definition_reason_at lines ≡ None
+    → definition_reason_at (record { before = lines; line = line }) ≡ None
     → after (all_of (complete_in lines) (begun_in lines) None) line ≡ definitions_of_lines
     (lines ++ line ∷ [])
 taken_next lines line none is =
@@ -123,19 +96,7 @@ taken_next lines line none is =
     ∙ (ap (λ entries. all_of entries (begun_after (begun_in lines) line) None)
     (sym (complete-more lines line))
     ∙ (ap (λ begun. all_of (complete_in (lines ++ line ∷ [])) begun None) (sym (begun-more lines line))
-    ∙ sym (ap (known (lines ++ line ∷ [])) (one_more_is lines line None none is))))
-
--- it is refused where there is a reason, and else not
-refusal_next : (lines : List Line) (line : Line) (why : Option DefFault) → first_refused lines ≡ None
-    → reason_at (record { before = lines; line = line }) ≡ why → refusal (lines ++ line ∷ []) ≡ why
-refusal_next lines line why none is = ap (option_and_then reason_at) (one_more_is lines line why none is) ∙ by
-    why is
-  where
-    by : (why : Option DefFault) → reason_at (record { before = lines; line = line }) ≡ why
-        → option_and_then reason_at (cond (is_some why) (Some (record { before = lines; line = line })) None)
-        ≡ why
-    by None is = refl
-    by (Some fault) is = is
+    ∙ sym (ap (known (lines ++ line ∷ [])) (first-next definition_reason_at lines line None none is))))
 
 -- ---- no reason is want of memory
 
@@ -191,7 +152,7 @@ end_not_memory begun =
     (missing_not_memory (option_and_then (λ b. missing b.definition.event b.definition.fields) begun)) tt)
 
 not_memory : (entries : List (ℕ × Definition)) (begun : Option Begun) (words : List (List ℕ))
-    → NotMemory (reason entries begun words)
+    → NotMemory (definition_reason entries begun words)
 not_memory entries begun words = by (begins_definition words) (ends_definition words)
   where
     by : (b e : Bool) → NotMemory (cond b (begin_reason entries begun words)
@@ -204,22 +165,24 @@ not_memory entries begun words = by (begins_definition words) (ends_definition w
 
 -- the lines before are all taken
 none_before : (before : List Line) (old : Definitions) → old ≡ definitions_of_lines before → old.fault ≡ None
-    → first_refused before ≡ None
-none_before before old is e = none_refused before (sym (ap (λ d. d.fault) is) ∙ e)
+    → first_refused definition_reason_at before ≡ None
+none_before before old is e = none_refused definition_reason_at before (sym (ap (λ d. d.fault) is) ∙ e)
 
 all_before : (before : List Line) (old : Definitions) → old ≡ definitions_of_lines before → old.fault ≡ None
     → old ≡ all_of (complete_in before) (begun_in before) None
 all_before before old is e = is ∙ ap (known before) (none_before before old is e)
 
 abbrev pub TakesBy : Definitions → Line → Definitions → Result (Unit {0}) DefFault → Type 0
-TakesBy old line new r = TakesUnless old new r (reason old.complete old.begun line.words) (after old line)
+TakesBy old line new r = TakesUnless old new r (definition_reason old.complete old.begun line.words)
+    (after old line)
 
 -- It was refused before.
 pub refused_before : (before : List Line) (line : Line) (old : Definitions) (fault : DefFault)
     → old ≡ definitions_of_lines before → old.fault ≡ Some fault
     → old ≡ definitions_of_lines (before ++ line ∷ [])
 refused_before before line old fault is e =
-    is ∙ sym (refused_stays before line (first_refused before) fault refl (sym (ap (λ d. d.fault) is) ∙ e))
+    is ∙ sym (refused_stays before line (first_refused definition_reason_at before) fault refl
+    (sym (ap (λ d. d.fault) is) ∙ e))
 
 -- The line is taken.
 pub takes_line : (before : List Line) (line : Line) (old new : Definitions) (r : Unit {0})
@@ -230,8 +193,11 @@ takes_line before line old new r is e steps =
     let by_facts : TakesBy (all_of (complete_in before) (begun_in before) None) line new (Ok r) =
     subst (λ d. TakesBy d line new (Ok r)) (all_before before old is e) steps in
     let next : new ≡ definitions_of_lines (before ++ line ∷ []) = by_facts.1 ∙ taken_next before line none
-    by_facts.0 in
-    (next, ap (λ d. d.fault) next ∙ refusal_next before line None none by_facts.0)
+    by_facts.0 in (
+      next,
+      ap (λ d. d.fault) next ∙ refusal-next definition_reason_at before line None
+          (sym (ap (λ d. d.fault) is) ∙ e) by_facts.0,
+    )
 
 -- The line is refused.
 pub refuses_line : (before : List Line) (line : Line) (old new : Definitions) (fault : DefFault)
@@ -244,16 +210,17 @@ refuses_line before line old new fault is e apart (same, inr why) =
     let facts = all_before before old is e in
     ap (λ d. all_of d.complete d.begun (Some fault)) (same ∙ facts)
     ∙ refused_next before line fault (none_before before old is e)
-    (subst (λ d. reason d.complete d.begun line.words ≡ Some fault) facts why)
+    (subst (λ d. definition_reason d.complete d.begun line.words ≡ Some fault) facts why)
 
 -- Memory ran out.
 pub runs_out : (before : List Line) (line : Line) (old new : Definitions) (fault : DefFault)
     → old ≡ definitions_of_lines before → old.fault ≡ None → fault ≡ Memory
-    → TakesBy old line new (Err fault) → (refusal (before ++ line ∷ []) ≡ None)
+    → TakesBy old line new (Err fault) → (refusal definition_reason_at (before ++ line ∷ []) ≡ None)
     × (new ≡ definitions_of_lines before)
 runs_out before line old new fault is e memory (same, inl out) = (
-  refusal_next before line None (none_before before old is e)
-      (subst (λ d. reason d.complete d.begun line.words ≡ None) (all_before before old is e) out.1),
+  refusal-next definition_reason_at before line None (sym (ap (λ d. d.fault) is) ∙ e)
+      (subst (λ d. definition_reason d.complete d.begun line.words ≡ None) (all_before before old is e)
+      out.1),
   same ∙ is,
 )
 runs_out before line old new fault is e memory (same, inr why) =

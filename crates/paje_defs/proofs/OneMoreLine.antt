@@ -1,9 +1,9 @@
 -- What is begun and what is complete, after one more line.
 use Rattle.std.proofs.Common.{◌≡◌, ℕ, ◌+◌, ◌-◌, List, [], ◌∷◌, ◌++◌, ◌||◌, length, drop, filter, filter_map}
-use Rattle.std.proofs.Common.{Bool, true, false, not, Option, Some, None, cond, refl, sym, ◌∙◌, ap, arith}
-use Rattle.std.specs.List.{after_last, cons_option, last_or, prefix_len, suffix_len}
+use Rattle.std.proofs.Common.{Bool, true, false, not, Option, Some, None, cond, refl, ◌∙◌, ap, arith}
+use Rattle.std.specs.List.{after_last, last_or, prefix_len, suffix_len}
 use Rattle.std.specs.Option.{option_and_then, option_map, option_to_list, option_zip}
-use Rattle.std.proofs.lemmas.List.{append-nil, append_assoc, drop-append-le, drop_all, length-append}
+use Rattle.std.proofs.lemmas.List.{append-nil, drop-append-le, drop_all, length-append}
 use Rattle.std.proofs.lemmas.List.{reverse-append}
 use Rattle.std.proofs.lemmas.List.Elements.{filter-append, filter_map-append}
 use Rattle.paje_defs.specs.declared.event_name.EventName.{EventName}
@@ -11,9 +11,9 @@ use Rattle.paje_defs.specs.declared.field.Field.{Field}
 use Rattle.paje_defs.specs.declared.begun.Begun.{Begun}
 use Rattle.paje_defs.specs.Lines.{Line, begins_definition, begun_by, begun_in, borders, complete_in}
 use Rattle.paje_defs.specs.Lines.{defined_by}
-use Rattle.paje_defs.specs.Lines.{defined_event, defined_number, ended_at, ends_definition, field_of, placed}
-use Rattle.paje_defs.specs.Lines.{placed_behind}
+use Rattle.paje_defs.specs.Lines.{defined_event, defined_number, ended_at, ends_definition, field_of}
 use Rattle.paje_defs.specs.Table.{grown}
+use Rattle.paje_defs.proofs.PlacedMore.{one_or_none, told-more}
 
 -- ---- lists
 
@@ -53,10 +53,6 @@ last-more : {X : Type 0} (p : X → Bool) (xs : List X) (x : X) → p x ≡ fals
 last-more p xs x fails =
     ap (last_or None) (filter-append p xs (x ∷ []) ∙ ap (λ b. filter p xs ++ cond b (x ∷ []) []) fails ∙
     append-nil (filter p xs))
-
-one_or_none : {X : Type 0} (o : Option X) → cons_option o [] ≡ option_to_list o
-one_or_none None = refl
-one_or_none (Some x) = refl
 
 -- ---- what is begun
 
@@ -139,24 +135,6 @@ begun-more lines line = by (begins_definition line.words) (ends_definition line.
 
 -- ---- what is complete
 
-placed_behind-more : (before lines : List Line) (line : Line) → placed_behind before (lines ++ line ∷ []) ≡
-    placed_behind before lines ++ record { before = before ++ lines; line = line } ∷ []
-placed_behind-more before [] line = ap (λ all. record { before = all; line = line } ∷ [])
-    (sym (append-nil before))
-placed_behind-more before (x ∷ lines) line =
-    ap (λ rest. record { before = before; line = x } ∷ rest)
-    (placed_behind-more (before ++ x ∷ []) lines line
-    ∙ ap (λ all. placed_behind (before ++ x ∷ []) lines ++ record { before = all; line = line } ∷ [])
-    (append_assoc before (x ∷ []) lines))
-
-pub placed-more : (lines : List Line) (line : Line) → placed (lines ++ line ∷ []) ≡ placed lines
-    ++ record { before = lines; line = line } ∷ []
-placed-more lines line = placed_behind-more [] lines line
-
 pub complete-more : (lines : List Line) (line : Line) → complete_in (lines ++ line ∷ []) ≡ complete_in lines
     ++ option_to_list (ended_at (record { before = lines; line = line }))
-complete-more lines line =
-    ap (filter_map ended_at) (placed-more lines line)
-    ∙ (filter_map-append ended_at (placed lines) (record { before = lines; line = line } ∷ [])
-    ∙ ap (λ more. complete_in lines ++ more)
-    (one_or_none (ended_at (record { before = lines; line = line }))))
+complete-more lines line = told-more ended_at lines line

@@ -12,22 +12,26 @@ use Rattle.paje_defs.specs.declared.definition.Definition.{Definition}
 use Rattle.paje_defs.specs.declared.begun.Begun.{Begun}
 use Rattle.paje_defs.specs.declared.def_fault.DefFault.{DefFault}
 use Rattle.paje_defs.specs.declared.def_fault.DefFault.TheVariants.{DoubleNumber, Nested, Shape, UnknownName}
-use Rattle.paje_defs.specs.Lines.{Line, Placed, begin_reason, begins_definition, begun_in, complete_in}
+use Rattle.paje_defs.specs.Lines.{Line, begin_reason, begins_definition, begun_in, complete_in}
+use Rattle.paje_defs.specs.Refusals.{Placed}
 use Rattle.paje_defs.specs.Lines.{defined_by}
 use Rattle.paje_defs.specs.Lines.{defined_event, defined_number, definition_of, end_reason, ends_definition}
 use Rattle.paje_defs.specs.Lines.{definition_entry}
-use Rattle.paje_defs.specs.Lines.{field_of, field_reason, first_line, first_of, placed_behind, reason}
-use Rattle.paje_defs.specs.Lines.{reason_at, taken, when}
+use Rattle.paje_defs.specs.Lines.{field_of, field_reason, first_line, definition_reason}
+use Rattle.paje_defs.specs.Refusals.{first_of, placed_behind}
+use Rattle.paje_defs.specs.Lines.{definition_reason_at}
+use Rattle.paje_defs.specs.Refusals.{taken, when}
 use Rattle.paje_defs.specs.Table.{grown}
 use Rattle.paje_defs.proofs.OneMoreLine.{begun-more, begun_after, complete-more}
 
 -- ---- what each line that is taken keeps
 
-abbrev pub is_refused : Placed → Bool
-is_refused p = is_some (reason_at p)
+abbrev pub is_refused : Placed Line → Bool
+is_refused p = is_some (definition_reason_at p)
 
 abbrev pub Keeps : (List Line → Type 0) → Type 0
-Keeps P = (before : List Line) (line : Line) → reason_at (record { before = before; line = line }) ≡ None
+Keeps P = (before : List Line) (line : Line) → definition_reason_at (record { before = before; line = line })
+    ≡ None
     → P before → P (before ++ line ∷ [])
 
 none_is : {X : Type 0} (o : Option X) → is_some o ≡ false → o ≡ None
@@ -55,9 +59,11 @@ taken_keeps_behind P keeps before (line ∷ lines) holds =
         (λ all. P (option_map_or (λ p. p.before)
         (find is_refused (placed_behind (before ++ line ∷ []) lines)) all))
         (append_assoc before (line ∷ []) lines)
-        (later (keeps before line (none_is (reason_at (record { before = before; line = line })) is) holds))
+        (later (keeps before line (none_is (definition_reason_at (record { before = before; line = line }))
+        is) holds))
 
-pub taken_keeps : (P : List Line → Type 0) → Keeps P → P [] → (lines : List Line) → P (taken lines)
+pub taken_keeps : (P : List Line → Type 0) → Keeps P → P [] → (lines : List Line)
+    → P (taken definition_reason_at lines)
 taken_keeps P keeps holds lines = taken_keeps_behind P keeps [] lines holds
 
 -- ---- the number that is begun has no definition
@@ -111,7 +117,8 @@ grown_lacks entries None line lacks = tt
 grown_lacks entries (Some b) line lacks = lacks
 
 after_lacks : (entries : List (ℕ × Definition)) (begun : Option Begun) (line : Line)
-    → reason entries begun line.words ≡ None → Lacks entries begun → Lacks entries (begun_after begun line)
+    → definition_reason entries begun line.words ≡ None → Lacks entries begun → Lacks entries (begun_after
+    begun line)
 after_lacks entries begun line e lacks = by (begins_definition line.words) (ends_definition line.words) e
   where
     by : (b f : Bool) → cond b (begin_reason entries begun line.words)
@@ -152,5 +159,5 @@ keeps_fresh before line none fresh =
     (ends_definition line.words)
     (not_both line.words) (after_lacks (complete_in before) (begun_in before) line none fresh)))
 
-pub taken_fresh : (lines : List Line) → IsFresh (taken lines)
+pub taken_fresh : (lines : List Line) → IsFresh (taken definition_reason_at lines)
 taken_fresh lines = taken_keeps IsFresh keeps_fresh tt lines

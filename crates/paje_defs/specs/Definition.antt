@@ -1,8 +1,7 @@
 -- Which field of a definition has which role.
-use Rattle.std.proofs.Math.Bool.{Bool-set}
 use Rattle.std.specs.Prelude.{ℕ, ◌==◌, List, Bool, Option, position, is_none}
 use Rattle.std.specs.Option.{IsNone, option_and_then, option_or}
-use Rattle.std.specs.List.{AllByRecursion, AllByRecursion-prop, find}
+use Rattle.std.specs.List.{find}
 use Rattle.paje_defs.specs.declared.event_name.EventName.{EventName}
 use Rattle.paje_defs.specs.declared.field_name.FieldName.{FieldName}
 use Rattle.paje_defs.specs.declared.role.Role.{Role}
@@ -32,11 +31,3 @@ missing event fields = find (λ role. is_none (place_of event fields role)) (nee
 -- each role that its event needs has a field
 abbrev pub IsWhole : Definition → Type 0
 IsWhole d = IsNone (missing d.event d.fields)
-
--- so has each of these definitions
-unfoldable pub AreWhole : List (ℕ × Definition) → Type 0
-AreWhole entries = AllByRecursion (λ entry. IsWhole entry.1) entries
-
-pub AreWhole-prop : (entries : List (ℕ × Definition)) → IsProp (AreWhole entries)
-unfolding AreWhole
-AreWhole-prop entries = AllByRecursion-prop (λ entry. IsWhole entry.1) (λ entry. Bool-set _ _) entries

@@ -1,5 +1,5 @@
 -- What an event line tells under the definitions.
-use Rattle.std.specs.Prelude.{◌≡◌, ℕ, ◌+◌, List, length, slice_get, is_some, Option, Some, None, Ok, Err}
+use Rattle.std.specs.Prelude.{◌≡◌, ℕ, List, length, slice_get, is_some, Option, Some, None, Ok, Err}
 use Rattle.std.specs.Prelude.{Result, MatchResult, if◌then◌else◌, nat_lt}
 use Rattle.std.specs.Option.{option_and_then}
 use Rattle.paje_lex.specs.declared.date_fault.DateFault.{DateFault}
@@ -17,12 +17,8 @@ use Rattle.paje_defs.specs.declared.event_fault.EventFault.TheVariants as faults
 use Rattle.paje_defs.specs.declared.fields.Fields.{Fields}
 use Rattle.paje_defs.specs.Numbers.{event_number_of, size_of}
 use Rattle.paje_defs.specs.Definition.{place_of}
-use Rattle.paje_defs.specs.Texts.{text_by_role}
+use Rattle.paje_defs.specs.Texts.{text_at, text_by_role}
 use Rattle.paje_defs.specs.Lines.{definition_of}
-
--- the text of the field at a place: the first token is the number
-abbrev pub text_at : List (List ℕ) → Option ℕ → Option (List ℕ)
-text_at words place = option_and_then (λ at. slice_get words (at + 1)) place
 
 -- the text of a role's field
 abbrev pub role_text : Definition → List (List ℕ) → Role → Option (List ℕ)
@@ -49,10 +45,13 @@ abbrev pub field_size : Option Field → Option (List ℕ) → ℕ
 field_size None text = 0
 field_size (Some f) text = typed_size f.kind text
 
--- the size that the field of the role Size tells
+-- the field of the role Size
+abbrev pub size_field : Definition → Option Field
+size_field d = option_and_then (slice_get d.fields) (place_of d.event d.fields roles.Size)
+
+-- the size that it tells
 abbrev pub size_in : Definition → List (List ℕ) → ℕ
-size_in d words = field_size (option_and_then (slice_get d.fields) (place_of d.event d.fields roles.Size))
-    (role_text d words roles.Size)
+size_in d words = field_size (size_field d) (role_text d words roles.Size)
 
 -- only the start of a link has one
 abbrev pub message_size : EventName → ℕ → ℕ

@@ -11,7 +11,9 @@ use Rattle.paje_defs.specs.declared.role.Role.{Role}
 use Rattle.paje_defs.specs.declared.field.Field.{Field}
 use Rattle.paje_defs.specs.declared.definition.Definition.{Definition}
 use Rattle.paje_defs.specs.declared.event_fault.EventFault.{EventFault}
-use Rattle.paje_defs.specs.Lines.{Definitions, Line, definitions_of_lines, first_refused}
+use Rattle.paje_defs.specs.Lines.{Definitions, Line, definitions_of_lines}
+use Rattle.paje_defs.specs.Refusals.{first_refused}
+use Rattle.paje_defs.specs.Lines.{definition_reason_at}
 use Rattle.paje_defs.specs.Events.{Event, told_event, role_text, size_in, message_size}
 
 -- the words of a line without quotes
@@ -32,7 +34,7 @@ definitions_in lines = definitions_of_lines (numbered lines)
 
 -- the number of the first refused line
 abbrev pub refused_line : List (List ℕ) → Option ℕ
-refused_line lines = option_map (λ p. p.line.number) (first_refused (numbered lines))
+refused_line lines = option_map (λ p. p.line.number) (first_refused definition_reason_at (numbered lines))
 
 abbrev pub defined : ℕ → ℕ → EventName → List Field → ℕ × Definition
 defined number line event fields = (number, record { line = line; event = event; fields = fields })

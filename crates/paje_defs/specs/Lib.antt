@@ -4,7 +4,9 @@ pub mod Events
 pub mod FieldName
 pub mod FieldType
 pub mod Lines
+pub mod Refusals
 pub mod Numbers
+pub mod Places
 pub mod Role
 pub mod Examples
 pub mod Table

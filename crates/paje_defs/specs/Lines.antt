@@ -1,8 +1,8 @@
 -- What the definition lines of a trace make known: facts of the list of its lines, each found in the whole
 -- list.
-use Rattle.std.specs.Prelude.{ℕ, ◌||◌, List, [], ◌∷◌, ◌++◌, codes, filter, filter_map, slice_get, nat_eq}
-use Rattle.std.specs.Prelude.{Bool, false, Option, Some, None, is_some, is_none, if◌then◌else◌}
-use Rattle.std.specs.List.{after_last, find, last_or}
+use Rattle.std.specs.Prelude.{ℕ, ◌||◌, List, [], ◌∷◌, codes, filter, filter_map, slice_get, nat_eq}
+use Rattle.std.specs.Prelude.{Bool, false, Option, None, is_some, is_none, if◌then◌else◌}
+use Rattle.std.specs.List.{after_last, last_or}
 use Rattle.std.specs.Map.{lookup}
 use Rattle.std.specs.Option.{option_and_then, option_map, option_map_or, option_zip}
 use Rattle.std.specs.Str.{bytes_eq}
@@ -21,6 +21,7 @@ use Rattle.paje_defs.specs.FieldName.{field_name_of}
 use Rattle.paje_defs.specs.FieldType.{type_of}
 use Rattle.paje_defs.specs.Numbers.{event_number_of}
 use Rattle.paje_defs.specs.Definition.{missing}
+use Rattle.paje_defs.specs.Refusals.{Placed, first_of, placed, refusal, taken, when}
 
 -- a definition line: its number in the text, and its words behind the %
 pub record Line : Type 0 where
@@ -87,25 +88,12 @@ begun_in lines =
 
 -- ---- which definitions are complete
 
--- each line, with the lines before it
-pub record Placed : Type 0 where
-  pub before : List Line
-  pub line : Line
-
-abbrev pub placed_behind : List Line → List Line → List Placed
-placed_behind before [] = []
-placed_behind before (line ∷ lines) = record { before = before; line = line }
-    ∷ placed_behind (before ++ line ∷ []) lines
-
-abbrev pub placed : List Line → List Placed
-placed lines = placed_behind [] lines
-
 -- its definition, by its number
 abbrev pub definition_entry : Begun → ℕ × Definition
 definition_entry b = (b.number, b.definition)
 
 -- the definition that a line ends
-abbrev pub ended_at : Placed → Option (ℕ × Definition)
+abbrev pub ended_at : Placed Line → Option (ℕ × Definition)
 ended_at p = if ends_definition p.line.words then option_map definition_entry (begun_in p.before) else None
 
 -- the definitions that have an end, in the order of their ends
@@ -120,15 +108,6 @@ abbrev pub first_line : List (ℕ × Definition) → ℕ → Option ℕ
 first_line entries number = option_map (λ d. d.line) (definition_of entries number)
 
 -- ---- why a line is refused
-
-abbrev pub when : Bool → DefFault → Option DefFault
-when holds fault = if holds then Some fault else None
-
--- the first reason that there is
-abbrev pub first_of : List (Option DefFault) → Option DefFault
-first_of [] = None
-first_of (Some fault ∷ reasons) = Some fault
-first_of (None ∷ reasons) = first_of reasons
 
 abbrev pub begin_reason : List (ℕ × Definition) → Option Begun → List (List ℕ) → Option DefFault
 begin_reason complete begun words = first_of (
@@ -151,25 +130,13 @@ end_reason begun = first_of (
     (option_and_then (λ b. missing b.definition.event b.definition.fields) begun) ∷ [])
 
 -- by which definitions are complete, and which is begun
-abbrev pub reason : List (ℕ × Definition) → Option Begun → List (List ℕ) → Option DefFault
-reason complete begun words = if begins_definition words then begin_reason complete begun words
+abbrev pub definition_reason : List (ℕ × Definition) → Option Begun → List (List ℕ) → Option DefFault
+definition_reason complete begun words = if begins_definition words then begin_reason complete begun words
     else (if ends_definition words then end_reason begun else field_reason begun words)
 
 -- by the lines before it
-abbrev pub reason_at : Placed → Option DefFault
-reason_at p = reason (complete_in p.before) (begun_in p.before) p.line.words
-
--- ---- the first refused line
-
-abbrev pub first_refused : List Line → Option Placed
-first_refused lines = find (λ p. is_some (reason_at p)) (placed lines)
-
-abbrev pub refusal : List Line → Option DefFault
-refusal lines = option_and_then reason_at (first_refused lines)
-
--- the lines before it
-abbrev pub taken : List Line → List Line
-taken lines = option_map_or (λ p. p.before) (first_refused lines) lines
+abbrev pub definition_reason_at : Placed Line → Option DefFault
+definition_reason_at p = definition_reason (complete_in p.before) (begun_in p.before) p.line.words
 
 -- ---- what is known
 
@@ -182,7 +149,7 @@ pub record Definitions : Type 0 where
 -- A refused line adds nothing, nor does any behind it.
 abbrev pub definitions_of_lines : List Line → Definitions
 definitions_of_lines lines = record {
-  complete = complete_in (taken lines);
-  begun = begun_in (taken lines);
-  fault = refusal lines;
+  complete = complete_in (taken definition_reason_at lines);
+  begun = begun_in (taken definition_reason_at lines);
+  fault = refusal definition_reason_at lines;
 }

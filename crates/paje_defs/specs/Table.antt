@@ -1,30 +1,37 @@
 -- What a table of definitions tells, and what a line does to it.
-use Rattle.std.specs.Prelude.{◌≡◌, ℕ, ◌⊎◌, List, [], ◌∷◌, ◌++◌, nat_eq, Option, Some, None, Result}
+use Rattle.std.specs.Prelude.{◌≡◌, ℕ, ◌⊎◌, List, [], ◌∷◌, ◌++◌, map, nat_eq, Option, Some, None, Result}
 use Rattle.std.specs.Prelude.{MatchResult, if◌then◌else◌}
 use Rattle.std.specs.Option.{option_map, option_to_list}
 use Rattle.indexmap.specs.IndexMap.{insert_entry}
 use Rattle.paje_defs.specs.declared.field.Field.{Field}
 use Rattle.paje_defs.specs.declared.definition.Definition.{Definition}
 use Rattle.paje_defs.specs.declared.begun.Begun.{Begun}
+use Rattle.paje_defs.specs.declared.complete.Complete.{Complete}
 use Rattle.paje_defs.specs.declared.table.DefTable.{DefTable}
 use Rattle.paje_defs.specs.declared.def_fault.DefFault.{DefFault}
 use Rattle.paje_defs.specs.declared.def_fault.DefFault.TheVariants.{Memory}
 use Rattle.paje_defs.specs.Lines.{Definitions, Line, begins_definition, defined_by, definitions_of_lines}
 use Rattle.paje_defs.specs.Lines.{ends_definition, field_of}
-use Rattle.paje_defs.specs.Lines.{refusal}
+use Rattle.paje_defs.specs.Lines.{definition_reason_at}
+use Rattle.paje_defs.specs.Refusals.{refusal}
 
 abbrev pub numbered_line : ℕ → List (List ℕ) → Line
 numbered_line n words = record { number = n; words = words }
 
+-- the definitions, without their places
+abbrev pub without_places : List (ℕ × Complete) → List (ℕ × Definition)
+without_places entries = map (λ entry. (entry.0, entry.1.definition)) entries
+
 abbrev pub definitions_of : DefTable → Definitions
-definitions_of t = record { complete = t.complete.entries; begun = t.begun; fault = t.fault }
+definitions_of t = record { complete = without_places t.complete.entries; begun = t.begun; fault = t.fault }
 
 -- A table of the lines before has taken one more, or tells the first refusal among them. Where memory ran out
 -- it is as before, and no line is refused.
 abbrev pub TakesNext : {U : Type 0} → List Line → Line → Definitions → Result U DefFault → Type 0
 TakesNext before line new r = MatchResult r
     (λ _. (new ≡ definitions_of_lines (before ++ line ∷ [])) × (new.fault ≡ None))
-    (λ f. ((f ≡ Memory) × (refusal (before ++ line ∷ []) ≡ None) × (new ≡ definitions_of_lines before))
+    (λ f. ((f ≡ Memory) × (refusal definition_reason_at (before ++ line ∷ []) ≡ None)
+    × (new ≡ definitions_of_lines before))
     ⊎ ((new ≡ definitions_of_lines (before ++ line ∷ [])) × (new.fault ≡ Some f)))
 
 -- ---- what its private calls do

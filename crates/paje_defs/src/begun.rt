@@ -2,7 +2,8 @@ ghost use Rattle.std.specs.Prelude.{is_none};
 ghost use Rattle.std.specs.Option.{option_to_list};
 ghost use Rattle.paje_defs.specs.declared.def_fault.DefFault.TheVariants.{UnknownType};
 ghost use Rattle.paje_defs.specs.Words.{words_in};
-ghost use Rattle.paje_defs.specs.Lines.{field_of, field_type, when};
+ghost use Rattle.paje_defs.specs.Lines.{field_of, field_type};
+ghost use Rattle.paje_defs.specs.Refusals.{when};
 ghost use Rattle.paje_defs.specs.Table.{TakesUnless, grown};
 
 use crate::def_fault::DefFault;

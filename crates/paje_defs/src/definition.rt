@@ -40,15 +40,6 @@ pub fn place(event: EventName, fields: &[Field], role: Role) -> Option<usize>
 }
 
 impl Definition {
-    /// Where the field of a role stands, counted from 0.
-    pub(crate) fn place(&self, role: Role) -> Option<usize>
-        ensures place { result ≡ place_of self.now.event self.now.fields role }
-        ensures within { IfSome result (λ at. at < length self.now.fields) }
-        ensures room { IfSome result (λ at. at + 1 < 2 ^ 64) }
-    {
-        place(self.event, self.fields.as_slice(), role)
-    }
-
     /// The first role that its event needs and no field has.
     pub(crate) fn missing(&self) -> Option<Role>
         ensures { result ≡ missing self.now.event self.now.fields }

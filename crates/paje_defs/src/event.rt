@@ -4,14 +4,14 @@ ghost use Rattle.paje_lex.specs.LineGrammar.{StandIn};
 ghost use Rattle.paje_defs.specs.declared.role.Role.{Role};
 ghost use Rattle.paje_defs.specs.Words.{words_in, words_at_tokens};
 ghost use Rattle.paje_defs.specs.Events.{Event, RolesStand, Tells, told_event, message_size, role_text};
-ghost use Rattle.paje_defs.specs.Events.{size_in, timed, time_of_text};
-ghost use Rattle.paje_defs.specs.Definition.{IsWhole};
+ghost use Rattle.paje_defs.specs.Events.{field_size, size_field, timed, time_of_text};
 ghost use Rattle.paje_defs.specs.Texts.{text_by_role};
 ghost use Rattle.paje_defs.specs.Table.{definitions_of};
 
-use crate::definition::Definition;
+use crate::complete::Complete;
 use crate::event_fault::EventFault;
 use crate::event_name::EventName;
+use crate::field::Field;
 use crate::field_type::FieldType;
 use crate::fields::Fields;
 use crate::numbers::{event_number, size};
@@ -21,94 +21,91 @@ use crate::texts::Texts;
 use crate::words::Words;
 use paje_lex::{DateFault, Token, date};
 
-impl Definition {
-    /// The bytes of a role's field of a line.
-    fn text<'a>(&self, words: &Words<'a, '_>, role: Role) -> Option<&'a [u8]>
-        ensures { option_copied result ≡ role_text self.now (words_in words.now) role }
+/// The time of an event line.
+fn time(texts: &Texts<'_>) -> Result<u64, DateFault>
+    ensures { result ≡ time_of_text (text_by_role texts.now Role.Time) }
+{
+    match texts.get(Role::Time) {
+        Some(text) => date(text),
+        None => Ok(0),
+    }
+}
+
+impl Complete {
+    /// The bytes of each role's field of a line.
+    fn texts<'a>(&'a self, words: &Words<'a, 'a>) -> Texts<'a>
+        ensures { (role : Role) → text_by_role result role ≡ role_text self.now.definition (words_in words.now)
+            role }
     {
-        match self.place(role) {
-            Some(place) => words.get(place + 1),
+        Texts {
+            words: *words,
+            places: &self.places,
+        }
+    }
+
+    /// The field of a message's size.
+    fn size_field(&self) -> Option<&Field>
+        ensures { option_copied result ≡ size_field self.now.definition }
+    {
+        match self.places.get(Role::Size) {
+            Some(place) => self.definition.fields.get(place),
             None => None,
         }
     }
 
-    fn texts<'a>(&self, words: &Words<'a, '_>) -> Texts<'a>
-        ensures { (role : Role) → text_by_role result role ≡ role_text self.now (words_in words.now) role }
-    {
-        Texts {
-            time: self.text(words, Role::Time),
-            alias: self.text(words, Role::Alias),
-            kind: self.text(words, Role::Kind),
-            name: self.text(words, Role::Name),
-            holder: self.text(words, Role::Holder),
-            value: self.text(words, Role::Value),
-            key: self.text(words, Role::Key),
-            from_kind: self.text(words, Role::FromKind),
-            to_kind: self.text(words, Role::ToKind),
-            from: self.text(words, Role::From),
-            to: self.text(words, Role::To),
-            size: self.text(words, Role::Size),
-        }
-    }
-
     /// The size that the field of a message's size tells.
-    fn told_size(&self, words: &Words<'_, '_>) -> u64
-        ensures { result ≡ size_in self.now (words_in words.now) }
+    fn told_size(&self, texts: &Texts<'_>) -> u64
+        ensures { result ≡ field_size (size_field self.now.definition) (text_by_role texts.now Role.Size) }
     {
-        let Some(place) = self.place(Role::Size) else {
+        let Some(field) = self.size_field() else {
             return 0;
         };
-        let FieldType::Int = self.fields.as_slice()[place].kind else {
+        let FieldType::Int = field.kind else {
             return 0;
         };
-        match words.get(place + 1) {
+        match texts.get(Role::Size) {
             Some(text) => size(text),
             None => 0,
         }
     }
 
     /// The size of a message, 0 where the line starts none.
-    fn size(&self, words: &Words<'_, '_>) -> u64
-        ensures { result ≡ message_size self.now.event (size_in self.now (words_in words.now)) }
+    fn size(&self, texts: &Texts<'_>) -> u64
+        ensures { result ≡ message_size self.now.definition.event (field_size (size_field self.now.definition)
+            (text_by_role texts.now Role.Size)) }
     {
-        match self.event {
-            EventName::StartLink => self.told_size(words),
+        match self.definition.event {
+            EventName::StartLink => self.told_size(texts),
             _ => 0,
         }
     }
 
-    /// The time of an event line.
-    fn time(&self, words: &Words<'_, '_>) -> Result<u64, DateFault>
-        ensures { result ≡ time_of_text (role_text self.now (words_in words.now) Role.Time) }
-    {
-        match self.text(words, Role::Time) {
-            Some(text) => date(text),
-            None => Ok(0),
-        }
-    }
-
     /// What an event line of this definition tells.
-    fn read<'a>(&self, words: &Words<'a, '_>) -> Result<Fields<'a>, EventFault>
-        requires whole { IsWhole self.now }
-        requires enough { length self.now.fields < length (words_in words.now) }
-        ensures { Tells (words_in words.now) result
-            (timed self.now (time_of_text (role_text self.now (words_in words.now) Role.Time))) }
+    fn read<'a>(&'a self, words: &Words<'a, 'a>) -> Result<Fields<'a>, EventFault>
+        requires enough { length self.now.definition.fields < length (words_in words.now) }
+        ensures { Tells (words_in words.now) result (timed self.now.definition
+            (time_of_text (role_text self.now.definition (words_in words.now) Role.Time))) }
     {
-        let time = match self.time(words) {
+        let texts = self.texts(words);
+        let time = match time(&texts) {
             Ok(time) => time,
             Err(fault) => return Err(EventFault::Date(fault)),
         };
         Ok(Fields {
-            kind: self.event,
+            kind: self.definition.event,
             time,
-            size: self.size(words),
-            texts: self.texts(words),
+            size: self.size(&texts),
+            texts,
         })
     }
 }
 
 impl DefTable {
-    fn read_event<'a>(&self, line: &'a [u8], tokens: &[Token]) -> Result<Fields<'a>, EventFault>
+    fn read_event<'a>(
+        &'a self,
+        line: &'a [u8],
+        tokens: &'a [Token],
+    ) -> Result<Fields<'a>, EventFault>
         requires { StandIn (length line.now) tokens.now }
         ensures { Tells (words_at_tokens line.now tokens.now) result
             (told_event (definitions_of self.now).complete (words_at_tokens line.now tokens.now)) }
@@ -120,13 +117,13 @@ impl DefTable {
         let Some(number) = event_number(first) else {
             return Err(EventFault::NoNumber);
         };
-        let Some(definition) = self.definition(number) else {
+        let Some(complete) = self.complete(number) else {
             return Err(EventFault::UnknownNumber);
         };
-        if words.len() <= definition.fields.len() {
+        if words.len() <= complete.definition.fields.len() {
             return Err(EventFault::TooFew);
         }
-        definition.read(&words)
+        complete.read(&words)
     }
 
     /// The fields of an event line with the tokens that it has, under the definitions so far. It takes no
@@ -135,7 +132,11 @@ impl DefTable {
     /// # Errors
     ///
     /// In this order: `NoNumber`, `UnknownNumber`, `TooFew`, `Date`.
-    pub fn event<'a>(&self, line: &'a [u8], tokens: &[Token]) -> Result<Fields<'a>, EventFault>
+    pub fn event<'a>(
+        &'a self,
+        line: &'a [u8],
+        tokens: &'a [Token],
+    ) -> Result<Fields<'a>, EventFault>
         requires { StandIn (length line.now) tokens.now }
         ensures exact { Tells (words_at_tokens line.now tokens.now) result
             (told_event (definitions_of self.now).complete (words_at_tokens line.now tokens.now)) }

@@ -2,6 +2,7 @@
 #![tactic(auto)]
 
 mod begun;
+mod complete;
 mod def_fault;
 mod definition;
 mod event;
@@ -13,6 +14,7 @@ mod field_name;
 mod field_type;
 mod fields;
 mod numbers;
+mod places;
 mod role;
 mod table;
 mod texts;

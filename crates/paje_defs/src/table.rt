@@ -1,10 +1,10 @@
-ghost use Rattle.std.specs.Prelude.{◌≡◌, IfSome, List, length, is_some, Some, Err, []};
-ghost use Rattle.std.specs.Option.{option_copied};
+ghost use Rattle.std.specs.Prelude.{◌≡◌, List, length, is_some, Some, Err, []};
+ghost use Rattle.std.specs.Option.{option_copied, option_map};
 ghost use Rattle.paje_lex.specs.LineGrammar.{StandIn};
 ghost use Rattle.paje_defs.specs.declared.def_fault.DefFault.{DefFault};
-ghost use Rattle.paje_defs.specs.Definition.{AreWhole, AreWhole-prop, IsWhole};
 
 use crate::begun::Begun;
+use crate::complete::Complete;
 use crate::def_fault::DefFault;
 use crate::definition::Definition;
 use crate::words::Words;
@@ -13,26 +13,24 @@ use paje_lex::Token;
 use std::alloc::Global;
 use trace_base::Seq;
 
-/// The definitions of a trace. Each that is complete has a field of each role that its event needs.
+/// The definitions of a trace.
 #[derive(Drop)]
 pub struct DefTable {
     alloc: Global,
-    complete: IndexMap<u32, Definition>,
+    complete: IndexMap<u32, Complete>,
     begun: Option<Begun>,
     fault: Option<DefFault>,
-    ghost whole: { AreWhole complete.entries } by { AreWhole-prop complete.entries },
 }
 
 impl DefTable {
     ghost use Rattle.paje_defs.specs.Words.{words_in, words_at_tokens};
     ghost use Rattle.paje_defs.specs.Lines.{Line, begin_reason, definition_of, definitions_of_lines};
-    ghost use Rattle.paje_defs.specs.Lines.{end_reason, field_reason, first_line, reason};
+    ghost use Rattle.paje_defs.specs.Lines.{end_reason, field_reason, first_line, definition_reason};
     ghost use Rattle.paje_defs.specs.Table.{TakesUnless, TakesNext, after, after_begin, after_end};
     ghost use Rattle.paje_defs.specs.Table.{after_field};
     ghost use Rattle.paje_defs.specs.Table.{definitions_of, numbered_line};
 
     /// No definitions. It takes no memory.
-    #[tactic(auto, unfolding(crate::specs::Definition::AreWhole))]
     pub fn new(alloc: Global) -> DefTable
         ensures { definitions_of result ≡ definitions_of_lines [] }
     {
@@ -51,10 +49,10 @@ impl DefTable {
         self.begun.is_some()
     }
 
-    /// The definition of a number.
-    pub(crate) fn definition(&self, number: u32) -> Option<&Definition>
-        ensures found { option_copied result ≡ definition_of (definitions_of self.now).complete number }
-        ensures whole { IfSome (option_copied result) IsWhole }
+    /// The complete definition of a number.
+    pub(crate) fn complete(&self, number: u32) -> Option<&Complete>
+        ensures { option_map (λ c. c.definition) (option_copied result)
+            ≡ definition_of (definitions_of self.now).complete number }
     {
         self.complete.get(&number)
     }
@@ -63,7 +61,8 @@ impl DefTable {
     fn first_line(&self, number: u32) -> Option<u32>
         ensures { result ≡ first_line (definitions_of self.now).complete number }
     {
-        self.definition(number).map(|definition| definition.line)
+        self.complete(number)
+            .map(|complete| complete.definition.line)
     }
 
     /// `%EventDef name number`
@@ -114,6 +113,7 @@ impl DefTable {
     }
 
     /// `%EndEventDef`
+    #[tactic(auto, using(crate::proofs::WithoutPlaces::insert_without))]
     fn end(&mut self) -> Result<(), DefFault>
         ensures { TakesUnless (definitions_of self.old) (definitions_of self.new) result
             (end_reason (definitions_of self.old).begun) (after_end (definitions_of self.old)) }
@@ -126,10 +126,16 @@ impl DefTable {
             return Err(DefFault::MissingField(role));
         }
         let Begun { number, definition } = begun;
-        match self.complete.insert(number, definition) {
+        match self.complete.insert(number, Complete::new(definition)) {
             Ok(_) => Ok(()),
             Err(failed) => {
-                let (number, definition) = failed.value;
+                let (
+                    number,
+                    Complete {
+                        definition,
+                        places: _,
+                    },
+                ) = failed.value;
                 self.begun = Some(Begun { number, definition });
                 Err(DefFault::Memory)
             }
@@ -140,7 +146,7 @@ impl DefTable {
     fn step(&mut self, n: u32, line: &[u8], tokens: &[Token]) -> Result<(), DefFault>
         requires { StandIn (length line.now) tokens.now }
         ensures { TakesUnless (definitions_of self.old) (definitions_of self.new) result
-            (reason (definitions_of self.old).complete (definitions_of self.old).begun
+            (definition_reason (definitions_of self.old).complete (definitions_of self.old).begun
             (words_at_tokens line.now tokens.now))
             (after (definitions_of self.old) (numbered_line n (words_at_tokens line.now tokens.now))) }
     {

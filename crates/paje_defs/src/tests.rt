@@ -154,6 +154,64 @@ fn size_of_a_message(rt: HostRuntime) -> Result<(), Fail> {
     Ok(())
 }
 
+/// Two definitions of a link's start, whose fields stand in different orders.
+fn two_starts(alloc: Global) -> Result<DefTable, Fail> {
+    table_of(
+        alloc,
+        &[
+            b"%EventDef PajeStartLink 7",
+            b"% Time date",
+            b"% Type string",
+            b"% StartContainer string",
+            b"% Key string",
+            b"% Size int",
+            b"%EndEventDef",
+            b"%EventDef PajeStartLink 8",
+            b"% Key string",
+            b"% Extra string",
+            b"% Size string",
+            b"% SourceContainer string",
+            b"% Type string",
+            b"% Time date",
+            b"%EndEventDef",
+        ],
+    )
+}
+
+/// Whether the field of a role in a line has these bytes.
+fn has_text(
+    alloc: Global,
+    table: &DefTable,
+    line: &[u8],
+    role: Role,
+    wanted: &[u8],
+) -> Result<bool, Fail> {
+    if line.len() > MAX_TRACE_LINE {
+        return Err(Fail::from("a long line"));
+    }
+    let read = tokens(alloc, line)?;
+    let fields = table.event(line, read.as_slice())?;
+    match fields.text(role) {
+        Some(text) => Ok(text == wanted),
+        None => Ok(false),
+    }
+}
+
+#[test]
+fn texts_by_the_definition_of_the_line(rt: HostRuntime) -> Result<(), Fail> {
+    let alloc = rt.alloc();
+    let table = two_starts(alloc)?;
+    let one = b"7 0.5 K p0 k1 100".as_slice();
+    let other = b"8 \"\" x 100 p1 L 0.25".as_slice();
+    assert!(rt; has_text(alloc, &table, one, Role::From, b"p0")?);
+    assert!(rt; has_text(alloc, &table, one, Role::Size, b"100")?);
+    assert!(rt; has_text(alloc, &table, other, Role::From, b"p1")?);
+    assert!(rt; has_text(alloc, &table, other, Role::Key, b"")?);
+    assert!(rt; has_text(alloc, &table, other, Role::Kind, b"L")?);
+    assert!(rt; !has_text(alloc, &table, other, Role::To, b"")?);
+    Ok(())
+}
+
 /// The event 4 with twenty fields: the four that a push needs, and sixteen more.
 fn twenty_fields(alloc: Global) -> Result<DefTable, Fail> {
     let mut table = table_of(

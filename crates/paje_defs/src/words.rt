@@ -1,4 +1,4 @@
-ghost use Rattle.std.specs.Prelude.{◌≡◌, codes, length, slice_get};
+ghost use Rattle.std.specs.Prelude.{◌≡◌, ◌+◌, codes, length, slice_get};
 ghost use Rattle.std.specs.Option.{option_copied};
 ghost use Rattle.paje_lex.specs.LineGrammar.{StandIn};
 
@@ -9,7 +9,7 @@ use crate::numbers::event_number;
 use paje_lex::Token;
 
 /// A line with its tokens, whose bytes are its words.
-#[derive(Clone, Copy)]
+#[derive(Clone, Copy, Debug)]
 pub struct Words<'a, 't> {
     line: &'a [u8],
     tokens: &'t [Token],
@@ -58,6 +58,16 @@ impl<'a, 't> Words<'a, 't> {
         }
         let token = self.tokens[at];
         Some(&self.line[token.from as usize..token.to as usize])
+    }
+
+    /// The word of the field at a place, counted from 0: the first word is the number.
+    pub fn field(&self, place: usize) -> Option<&'a [u8]>
+        ensures { option_copied result ≡ slice_get (words_in self.now) (place + 1) }
+    {
+        if place >= self.tokens.len() {
+            return None;
+        }
+        self.get(place + 1)
     }
 
     fn opens_with(&self, name: &[u8]) -> bool

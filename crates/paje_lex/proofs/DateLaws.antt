@@ -33,11 +33,11 @@ digits_first : (b : ℕ) (bs : List ℕ) → AreDigits (take_while is_ascii_digi
 digits_first b bs rest true e = rw (take_one (prefix_len is_ascii_digit bs) b bs) (e, rest)
 digits_first b bs rest false e = tt
 
-digits_front : (bytes : List ℕ) → AreDigits (take_while is_ascii_digit bytes)
+pub digits_front : (bytes : List ℕ) → AreDigits (take_while is_ascii_digit bytes)
 digits_front [] = tt
 digits_front (b ∷ bs) = digits_first b bs (digits_front bs) (is_ascii_digit b) refl
 
-digits_append : (a b : List ℕ) → AreDigits a → AreDigits b → AreDigits (a ++ b)
+pub digits_append : (a b : List ℕ) → AreDigits a → AreDigits b → AreDigits (a ++ b)
 digits_append [] b x y = y
 digits_append (c ∷ a) b (first, x) y = (first, digits_append a b x y)
 

@@ -1,6 +1,9 @@
 pub mod DateLemmas
 pub mod DateLaws
+pub mod DatesInTime
 pub mod LineLemmas
 pub mod LinePlaces
 pub mod LineLaws
+pub mod LineSteps
 pub mod Scaling
+pub mod ShortDates

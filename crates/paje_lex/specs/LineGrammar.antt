@@ -96,6 +96,11 @@ Lexes line (Err (OpenQuote at)) = IsUtf8 line × (ps : List Piece) × (rest : Li
     × IsOpen (body_of_line line) ps rest × (at ≡ tokens_start line + length (pieces_text ps))
 Lexes line (Err Memory) = ⊥
 
+-- what a call gave that filled a list with these tokens
+abbrev pub filled : List Token → Result (Unit {0}) LexFault → Answer
+filled tokens (Ok done) = Ok tokens
+filled tokens (Err e) = Err e
+
 -- what a call gave, where it isn't want of memory
 abbrev pub LexesUnlessMemory : List ℕ → Result (List Token) LexFault → Type 0
 LexesUnlessMemory line (Ok tokens) = Lexes line (Ok tokens)

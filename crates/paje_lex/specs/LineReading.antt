@@ -1,10 +1,11 @@
 -- How the code reads the tokens of a line, a byte at a time.
-use Rattle.std.specs.Prelude.{ℕ, ◌+◌, ◌<◌, ◌==◌, List, [], ◌∷◌, ◌++◌, drop, Option, Some, None, Ok, Err}
+use Rattle.std.specs.Prelude.{◌≡◌, ℕ, ◌+◌, ◌<◌, ◌==◌, List, [], ◌∷◌, ◌++◌, drop, Option, Some, None, Ok, Err}
 use Rattle.std.specs.Prelude.{Result, if◌then◌else◌}
 use Rattle.std.specs.Option.{option_to_list}
 use Rattle.std.specs.Str.{is_utf8}
 use Rattle.std.specs.Str.Lossy.{utf8_valid_len}
 use Rattle.paje_lex.specs.declared.token.Token.{Token}
+use Rattle.paje_lex.specs.declared.line.Step.{Step}
 use Rattle.paje_lex.specs.declared.lex_fault.LexFault.{LexFault}
 use Rattle.paje_lex.specs.declared.lex_fault.LexFault.TheVariants.{NotText, OpenQuote}
 use Rattle.paje_lex.specs.declared.state.State.{State}
@@ -51,3 +52,9 @@ abbrev pub IsBefore : State → ℕ → Type 0
 IsBefore Between at = Unit {0}
 IsBefore (Plain from) at = from < at
 IsBefore (Quoted quote) at = quote < at
+
+-- what is so of a line from a place on is what a step over its front and the rest of the line give
+abbrev pub StepsOver : Result (List Token) LexFault → List ℕ → Result Step LexFault → Type 0
+StepsOver wanted line (Ok s) = wanted ≡ joined (option_to_list s.token) (scan Between s.behind
+    (drop s.behind line))
+StepsOver wanted line (Err e) = wanted ≡ Err e

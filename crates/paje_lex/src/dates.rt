@@ -11,6 +11,7 @@ ghost use Rattle.std.specs.Option.{option_map};
 
 use crate::date_fault::DateFault;
 use crate::powers::scaled;
+use crate::short_dates::short_date;
 use decimal_digits::{Digits, decimal};
 
 /// The most digits of an exponent.
@@ -137,7 +138,8 @@ fn read_exponent(text: &[u8]) -> Option<Tens>
     signed_size(&text[1..])
 }
 
-fn read_date(text: &[u8]) -> Result<u64, DateFault>
+/// What any text means as a date.
+fn general_date(text: &[u8]) -> Result<u64, DateFault>
     ensures { result ≡ date_of text.now }
 {
     let mantissa = read_mantissa(text);
@@ -151,6 +153,16 @@ fn read_date(text: &[u8]) -> Result<u64, DateFault>
         return Err(DateFault::Negative);
     }
     scaled(mantissa.digits, 9 + tens.up, mantissa.places + tens.down)
+}
+
+/// What a text means as a date, by a short way where there is one.
+fn read_date(text: &[u8]) -> Result<u64, DateFault>
+    ensures { result ≡ date_of text.now }
+{
+    match short_date(text) {
+        Some(time) => Ok(time),
+        None => general_date(text),
+    }
 }
 
 /// The whole nanoseconds that a date of a trace line means.

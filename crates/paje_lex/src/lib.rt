@@ -8,6 +8,7 @@ mod lex_fault;
 mod line;
 mod line_kinds;
 mod powers;
+mod short_dates;
 mod state;
 mod token;
 
@@ -15,7 +16,7 @@ pub use date_fault::DateFault;
 pub use dates::date;
 pub use examples::{date_examples, line_examples, token_examples};
 pub use lex_fault::LexFault;
-pub use line::tokens;
+pub use line::{tokens, tokens_into};
 pub use line_kinds::{is_definition, is_skipped};
 pub use token::Token;
 

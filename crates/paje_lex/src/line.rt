@@ -1,61 +1,139 @@
-ghost use Rattle.std.specs.Prelude.{◌≡◌, ◌≤◌, IfOk, drop, length};
+ghost use Rattle.std.specs.Prelude.{◌≡◌, ℕ, ◌+◌, ◌<◌, ◌≤◌, [], ◌∷◌, IfOk, IsUtf8, MatchResult, drop, length};
+ghost use Rattle.std.specs.Str.Lossy.{utf8_valid_len};
 ghost use Rattle.paje_lex.specs.LineKinds.{tokens_start};
 ghost use Rattle.paje_lex.specs.LineGrammar.{Answer, Lexes, LexesUnlessMemory, StandIn, UnlessMemory};
-ghost use Rattle.paje_lex.specs.LineReading.{ending, joined, lexed, scan};
+ghost use Rattle.paje_lex.specs.LineGrammar.{filled, token};
+ghost use Rattle.paje_lex.specs.LineReading.{StepsOver, joined, lexed, scan};
 
 use crate::lex_fault::LexFault;
-use crate::line_kinds::start_of;
+use crate::line_kinds::{is_blank, start_of};
 use crate::state::State;
 use crate::token::Token;
+use memchr::memchr;
 use std::alloc::Global;
 use trace_base::{MAX_TRACE_LINE, Seq};
 
-/// The tokens of a line that is text, from a place on. One stands for each two bytes, or one more.
-fn scan(alloc: Global, line: &[u8], start: usize) -> Result<Seq<Token>, LexFault>
-    requires short { length line.now ≤ MAX_TRACE_LINE }
-    requires within { start ≤ length line.now }
-    ensures { UnlessMemory result (scan State.Between start (drop start line.now)) }
+/// What stands at a place where no token is open, and the place behind it.
+#[derive(Clone, Copy)]
+struct Step {
+    /// The token that begins there; none where it is a blank.
+    token: Option<Token>,
+    behind: usize,
+}
+
+/// Where a token without quotes ends that has no blank before a place.
+fn plain_end(line: &[u8], from: usize) -> usize
+    requires within { from ≤ length line.now }
+    ensures within { (from ≤ result) × (result ≤ length line.now) }
+    ensures ends { (first : ℕ) → scan (State.Plain first) from (drop from line.now)
+        ≡ joined (token first result ∷ []) (scan State.Between result (drop result line.now)) }
 {
-    let Ok(room) = Vec::with_capacity(alloc, line.len() / 2 + 1) else {
-        return Err(LexFault::Memory);
-    };
-    let mut tokens = Seq::from_vec(room);
-    let mut state = State::Between;
-    for at in start..line.len() {
-        let (next, ended) = state.step(line[at], at as u32);
-        state = next;
-        if let Some(token) = ended {
-            if tokens.push(token).is_err() {
-                return Err(LexFault::Memory);
-            }
+    for at in from..line.len() {
+        if is_blank(line[at]) {
+            return at;
         }
     }
-    finish(tokens, state, line.len() as u32)
+    line.len()
 }
 
-/// The tokens with the one that the end of the line ends.
-fn finish(mut tokens: Seq<Token>, state: State, end: u32) -> Result<Seq<Token>, LexFault>
-    ensures { UnlessMemory result (joined tokens (ending state end)) }
+/// The token in quotes whose opening quote stands at a place.
+fn quoted(line: &[u8], quote: usize) -> Result<Step, LexFault>
+    requires short { length line.now ≤ MAX_TRACE_LINE }
+    requires within { quote < length line.now }
+    ensures within { IfOk result (λ s. (quote < s.behind) × (s.behind ≤ length line.now)) }
+    ensures ends { StepsOver (scan (State.Quoted quote) (quote + 1) (drop (quote + 1) line.now)) line.now result }
 {
-    match state {
-        State::Between => Ok(tokens),
-        State::Plain(from) => match tokens.push(Token { from, to: end }) {
-            Ok(()) => Ok(tokens),
-            Err(_) => Err(LexFault::Memory),
-        },
-        State::Quoted(quote) => Err(LexFault::OpenQuote(quote)),
+    match memchr(b'"', &line[quote + 1..]) {
+        Some(len) => {
+            let from = quote + 1;
+            Ok(Step {
+                token: Some(Token {
+                    from: from as u32,
+                    to: (from + len) as u32,
+                }),
+                behind: from + len + 1,
+            })
+        }
+        None => Err(LexFault::OpenQuote(quote as u32)),
     }
 }
 
-fn read_tokens(alloc: Global, line: &[u8]) -> Result<Seq<Token>, LexFault>
-    requires { length line.now ≤ MAX_TRACE_LINE }
-    ensures lexed { UnlessMemory result (lexed line.now) }
-    ensures within { IfOk result (StandIn (length line.now)) }
+/// What stands at a place where no token is open.
+fn step_at(line: &[u8], at: usize) -> Result<Step, LexFault>
+    requires short { length line.now ≤ MAX_TRACE_LINE }
+    requires within { at < length line.now }
+    ensures within { IfOk result (λ s. (at < s.behind) × (s.behind ≤ length line.now)) }
+    ensures steps { StepsOver (scan State.Between at (drop at line.now)) line.now result }
 {
+    match State::starting(line[at], at as u32) {
+        State::Between => Ok(Step {
+            token: None,
+            behind: at + 1,
+        }),
+        State::Plain(from) => {
+            let end = plain_end(line, at + 1);
+            Ok(Step {
+                token: Some(Token {
+                    from,
+                    to: end as u32,
+                }),
+                behind: end,
+            })
+        }
+        State::Quoted(_) => quoted(line, at),
+    }
+}
+
+/// Adds the tokens of a line that is text, from a place on.
+fn scan(tokens: &mut Seq<Token>, line: &[u8], start: usize) -> Result<(), LexFault>
+    requires short { length line.now ≤ MAX_TRACE_LINE }
+    requires within { start ≤ length line.now }
+    ensures { UnlessMemory (filled tokens.new result)
+        (joined tokens.old (scan State.Between start (drop start line.now))) }
+{
+    let mut at = start;
+    while at < line.len() {
+        let step = step_at(line, at)?;
+        if let Some(token) = step.token {
+            tokens.push(token)?;
+        }
+        at = step.behind;
+    }
+    Ok(())
+}
+
+/// Refuses a line that isn't text. One of ASCII alone is.
+fn demand_text(line: &[u8]) -> Result<(), LexFault>
+    requires { length line.now ≤ MAX_TRACE_LINE }
+    ensures { MatchResult result (λ _. IsUtf8 line.now)
+        (λ fault. (¬ (IsUtf8 line.now)) × (fault ≡ LexFault.NotText (utf8_valid_len line.now))) }
+{
+    if line.is_ascii() {
+        return Ok(());
+    }
     if let Err(fault) = simdutf8::compat::from_utf8(line) {
         return Err(LexFault::NotText(fault.valid_up_to() as u32));
     }
-    scan(alloc, line, start_of(line))
+    Ok(())
+}
+
+/// Makes a list the tokens of a line: those of before are removed, and its memory is used again. After an
+/// error it holds any tokens, and may be used again all the same. The tokens, and the errors, are those of
+/// [`tokens`].
+///
+/// # Errors
+///
+/// `NotText` where the line isn't UTF-8; else `OpenQuote` where a quote isn't closed; `Memory`.
+pub fn tokens_into(tokens: &mut Seq<Token>, line: &[u8]) -> Result<(), LexFault>
+    requires { length line.now ≤ MAX_TRACE_LINE }
+    ensures found { LexesUnlessMemory line.now (filled tokens.new result) }
+    ensures only { (wanted : Answer) → Lexes line.now wanted → UnlessMemory (filled tokens.new result) wanted }
+    ensures within { IfOk (filled tokens.new result) (StandIn (length line.now)) }
+    ensures exact { UnlessMemory (filled tokens.new result) (lexed line.now) }
+{
+    tokens.clear();
+    demand_text(line)?;
+    scan(tokens, line, start_of(line))
 }
 
 /// The tokens of a line, in order.
@@ -76,5 +154,10 @@ pub fn tokens(alloc: Global, line: &[u8]) -> Result<Seq<Token>, LexFault>
     ensures within { IfOk result (StandIn (length line.now)) }
     ensures exact { UnlessMemory result (lexed line.now) }
 {
-    read_tokens(alloc, line)
+    let Ok(room) = Vec::with_capacity(alloc, line.len() / 2 + 1) else {
+        return Err(LexFault::Memory);
+    };
+    let mut tokens = Seq::from_vec(room);
+    tokens_into(&mut tokens, line)?;
+    Ok(tokens)
 }

@@ -1,8 +1,7 @@
-ghost use Rattle.std.specs.Prelude.{◌≡◌, ◌+◌, ◌<◌, ◌^◌};
-ghost use Rattle.paje_lex.specs.LineReading.{IsBefore, starting, step};
+ghost use Rattle.std.specs.Prelude.{◌≡◌};
+ghost use Rattle.paje_lex.specs.LineReading.{starting};
 
 use crate::line_kinds::is_blank;
-use crate::token::Token;
 
 /// What stands open between two bytes of a line, and where it began.
 #[derive(Clone, Copy)]
@@ -16,29 +15,8 @@ pub enum State {
 }
 
 impl State {
-    /// What stands open after the byte at a place, and the token that it ends.
-    pub fn step(self, byte: u8, at: u32) -> (State, Option<Token>)
-        requires before { IsBefore self at }
-        requires room { at + 1 < 2 ^ 32 }
-        ensures step { result ≡ step self byte at }
-        ensures before { IsBefore result.0 (at + 1) }
-    {
-        match self {
-            State::Between => (State::starting(byte, at), None),
-            State::Plain(from) if is_blank(byte) => (State::Between, Some(Token { from, to: at })),
-            State::Quoted(quote) if byte == b'"' => (
-                State::Between,
-                Some(Token {
-                    from: quote + 1,
-                    to: at,
-                }),
-            ),
-            _ => (self, None),
-        }
-    }
-
     /// What a byte begins where no token is open.
-    fn starting(byte: u8, at: u32) -> State
+    pub fn starting(byte: u8, at: u32) -> State
         ensures { result ≡ starting byte at }
     {
         if is_blank(byte) {

@@ -1,7 +1,7 @@
-use crate::{DateFault, LexFault, Token, date, is_definition, is_skipped, tokens};
+use crate::{DateFault, LexFault, Token, date, is_definition, is_skipped, tokens, tokens_into};
 use std::alloc::Global;
 use std::test::Fail;
-use trace_base::MAX_TRACE_LINE;
+use trace_base::{MAX_TRACE_LINE, Seq};
 
 fn token(from: u32, to: u32) -> Token {
     Token { from, to }
@@ -29,6 +29,38 @@ fn tokens_of_lines(rt: HostRuntime) -> Result<(), Fail> {
         tokens(rt.alloc(), b"a \xff").err(),
         Some(LexFault::NotText(2))
     );
+    Ok(())
+}
+
+#[test]
+fn list_used_again(rt: HostRuntime) -> Result<(), Fail> {
+    let mut read = Seq::new(rt.alloc());
+    tokens_into(&mut read, b"5 0.1 s0 \"my func\"")?;
+    let wanted = [token(0, 1), token(2, 5), token(6, 8), token(10, 17)];
+    assert_eq!(rt; read.as_slice(), wanted.as_slice());
+    tokens_into(&mut read, b"ab")?;
+    assert_eq!(rt; read.as_slice(), [token(0, 2)].as_slice());
+    tokens_into(&mut read, b" \t")?;
+    assert!(rt; read.is_empty());
+    Ok(())
+}
+
+#[test]
+fn list_used_after_an_error(rt: HostRuntime) -> Result<(), Fail> {
+    let mut read = Seq::new(rt.alloc());
+    assert_eq!(rt;
+        tokens_into(&mut read, b"a b \"c"),
+        Err(LexFault::OpenQuote(4))
+    );
+    tokens_into(&mut read, b"% de")?;
+    assert_eq!(rt; read.as_slice(), [token(2, 4)].as_slice());
+    assert_eq!(rt;
+        tokens_into(&mut read, b"a \xc3"),
+        Err(LexFault::NotText(2))
+    );
+    tokens_into(&mut read, b"a \xc3\xa9")?;
+    let wanted = [token(0, 1), token(2, 4)];
+    assert_eq!(rt; read.as_slice(), wanted.as_slice());
     Ok(())
 }
 
@@ -116,6 +148,21 @@ fn dates(rt: HostRuntime) -> Result<(), Fail> {
     );
     assert_eq!(rt; date(b"-1e-30"), Err(DateFault::Negative));
     assert_eq!(rt; date(b"1e31"), Err(DateFault::Shape));
+    Ok(())
+}
+
+#[test]
+fn short_dates(rt: HostRuntime) -> Result<(), Fail> {
+    assert_eq!(rt; date(b"12.345678901")?, 12_345_678_901);
+    assert_eq!(rt; date(b"12.3456789019")?, 12_345_678_901);
+    assert_eq!(rt; date(b"007.5")?, 7_500_000_000);
+    assert_eq!(rt; date(b"1.")?, 1_000_000_000);
+    assert_eq!(rt; date(b"461168601.842738790")?, 461_168_601_842_738_790);
+    assert_eq!(rt; date(b"46116860184.2738790"), Err(DateFault::Big));
+    assert_eq!(rt; date(b"1.5e1")?, 15_000_000_000);
+    assert_eq!(rt; date(b"1.5x"), Err(DateFault::Shape));
+    assert_eq!(rt; date(b"1.5.5"), Err(DateFault::Shape));
+    assert_eq!(rt; date(b"."), Err(DateFault::Shape));
     Ok(())
 }
 

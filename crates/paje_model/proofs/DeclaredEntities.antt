@@ -14,7 +14,7 @@ use Rattle.indexmap.specs.IndexMap.{insert_entry}
 use Rattle.indexmap.proofs.MapLemmas.{absent_from_lookup, insert_entry-absent, some_index}
 use Rattle.paje_model.specs.declared.entity_table.Declaration.{Declaration}
 use Rattle.paje_model.specs.EntityTable.{entity_at}
-use Rattle.paje_model.specs.Found.{Entity, has_alias, has_name}
+use Rattle.paje_lines.specs.Found.{Entity, has_alias, has_name}
 use Rattle.paje_model.proofs.Places.{lookup-push, position-map, position-push}
 
 -- a text that stands for a key, and the comparison of keys

@@ -6,13 +6,13 @@ use Rattle.std.proofs.lemmas.List.{append-nil, map-append}
 use Rattle.paje_defs.specs.declared.event_name.EventName.{EventName}
 use Rattle.paje_defs.specs.declared.event_name.EventName.TheVariants as events
 use Rattle.paje_defs.specs.declared.role.Role.TheVariants as roles
-use Rattle.paje_model.specs.declared.type_sort.TypeSort.{TypeSort}
+use Rattle.paje_lines.specs.declared.type_sort.TypeSort.{TypeSort}
 use Rattle.paje_model.specs.declared.type_table.TypeTable.{TypeTable}
-use Rattle.paje_model.specs.EventLine.{EventLine, text_of, is_state_type, is_link_type}
-use Rattle.paje_model.specs.Types.{DeclaredType, root_type, type_at, types_in, sort_of, rooted_entity}
-use Rattle.paje_model.specs.Types.{state_number, link_number, kinds_in, link_kinds_in}
+use Rattle.paje_lines.specs.EventLine.{EventLine, text_of, is_state_type, is_link_type}
+use Rattle.paje_lines.specs.Types.{DeclaredType, root_type, type_at, types_in, sort_of, rooted_entity}
+use Rattle.paje_lines.specs.Types.{state_number, link_number, kinds_in, link_kinds_in}
 use Rattle.paje_model.specs.TypeTable.{AreTypes, TakesType}
-use Rattle.paje_model.proofs.OneMoreLine.{told-more, picked-more}
+use Rattle.paje_defs.proofs.PlacedMore.{told-more, picked-more}
 
 -- ---- the types, after one more line
 
@@ -32,7 +32,7 @@ is_state sort = is_some (state_number sort)
 abbrev is_link : TypeSort → Bool
 is_link sort = is_some (link_number sort)
 
-state-told : (lines : List EventLine) (event : EventName)
+pub state-told : (lines : List EventLine) (event : EventName)
     → option_map_or is_state (sort_of lines event) false ≡ is_state_type event
 state-told lines events.DefineContainerType = refl
 state-told lines events.DefineStateType = refl

@@ -7,7 +7,7 @@ use Rattle.std.proofs.lemmas.Option.{slice_get_read}
 use Rattle.std.proofs.Common.{refl}
 use Rattle.paje_model.specs.declared.entity_table.EntityTable.{EntityTable}
 use Rattle.paje_model.specs.EntityTable.{entities_in}
-use Rattle.paje_model.specs.Found.{Entity}
+use Rattle.paje_lines.specs.Found.{Entity}
 
 length-kept : (tables : List EntityTable) → length (map entities_in tables) ≡ length tables
 length-kept [] = refl

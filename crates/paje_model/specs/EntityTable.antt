@@ -2,7 +2,7 @@
 use Rattle.std.specs.Prelude.{◌≡◌, ℕ, List, map, position, Vec}
 use Rattle.paje_model.specs.declared.entity_table.Declaration.{Declaration}
 use Rattle.paje_model.specs.declared.entity_table.EntityTable.{EntityTable}
-use Rattle.paje_model.specs.Found.{Entity, has_name}
+use Rattle.paje_lines.specs.Found.{Entity, has_name}
 use Rattle.paje_model.specs.Noted.{place_noted}
 
 abbrev pub entity_at : {A : Type 0} → Vec ℕ A × Declaration → Entity

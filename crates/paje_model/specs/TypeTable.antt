@@ -1,12 +1,12 @@
 -- What a table of types stands for, and what one more does to it.
 use Rattle.std.specs.Prelude.{◌≡◌, map, List, [], ◌∷◌, ◌++◌, is_some, if◌then◌else◌}
-use Rattle.paje_model.specs.declared.type_sort.TypeSort.{TypeSort}
+use Rattle.paje_lines.specs.declared.type_sort.TypeSort.{TypeSort}
 use Rattle.paje_model.specs.declared.type_table.TypeTable.{TypeTable}
-use Rattle.paje_model.specs.EventLine.{EventLine}
+use Rattle.paje_lines.specs.EventLine.{EventLine}
 use Rattle.paje_model.specs.EntityTable.{IsNamed, entities_in}
-use Rattle.paje_model.specs.Found.{Entity}
-use Rattle.paje_model.specs.Types.{state_number, link_number, type_entities, types_in, kinds_in}
-use Rattle.paje_model.specs.Types.{link_kinds_in}
+use Rattle.paje_lines.specs.Found.{Entity}
+use Rattle.paje_lines.specs.Types.{state_number, link_number, type_entities, types_in, kinds_in}
+use Rattle.paje_lines.specs.Types.{link_kinds_in}
 
 -- it has the types that the lines declare
 pub record AreTypes (lines : List EventLine) (t : TypeTable) : Type 0 where

@@ -3,7 +3,7 @@ use Rattle.std.specs.Prelude.{ℕ, List, [], map, slice_get, All}
 use Rattle.std.specs.Option.{option_map_or}
 use Rattle.paje_model.specs.declared.value_table.ValueTable.{ValueTable}
 use Rattle.paje_model.specs.EntityTable.{IsNamed, entities_in}
-use Rattle.paje_model.specs.Found.{Entity}
+use Rattle.paje_lines.specs.Found.{Entity}
 
 -- the values of each state type, in order
 abbrev pub values_kept : ValueTable → List (List Entity)

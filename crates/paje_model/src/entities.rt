@@ -1,26 +1,19 @@
 //! What the event lines of a trace declare and do so far.
-ghost use Rattle.std.specs.Prelude.{[], IfOk};
+ghost use Rattle.std.specs.Prelude.{◌≡◌, List, [], IfOk, Some, None, Err};
+ghost use Rattle.paje_lines.specs.EventLine.{EventLine, line_of};
+ghost use Rattle.paje_lines.specs.Text.{text_said};
+ghost use Rattle.paje_lines.specs.declared.model_fault.ModelFault.{ModelFault};
 
-use crate::container_table::ContainerTable;
-use crate::function_table::FunctionTable;
-use crate::model_fault::ModelFault;
-use crate::track_table::TrackTable;
-use crate::type_table::TypeTable;
-use crate::value_table::ValueTable;
+use crate::known::Known;
+use paje_defs::Fields;
+use paje_lines::{Effect, ModelFault};
 use std::alloc::Global;
-use trace_base::{LinkEvent, Memory, Seq};
+use trace_base::{Memory, TraceText};
 
 /// The entities of a trace, its tracks and its open calls, behind its event lines so far.
 #[derive(Drop)]
 pub struct Entities {
-    types: TypeTable,
-    containers: ContainerTable,
-    values: ValueTable,
-    functions: FunctionTable,
-    tracks: TrackTable,
-    links: Seq<LinkEvent>,
-    /// How many state events there were.
-    states: u32,
+    known: Known,
     /// The greatest time of all lines, in nanoseconds.
     greatest: u64,
     /// The first refusal.
@@ -28,24 +21,55 @@ pub struct Entities {
 }
 
 impl Entities {
-    ghost use Rattle.paje_model.specs.StandsFor.{StandsFor};
+    ghost use Rattle.paje_model.specs.StandsFor.{Applies, IsOpen, StandsFor};
 
     /// The root container and the root type; `Memory` where none was found for them.
     pub fn new(alloc: Global) -> Result<Entities, Memory>
         ensures { IfOk result (StandsFor []) }
     {
-        let types = TypeTable::new(alloc)?;
-        let containers = ContainerTable::new(alloc)?;
         Ok(Entities {
-            types,
-            containers,
-            values: ValueTable::new(alloc),
-            functions: FunctionTable::new(alloc),
-            tracks: TrackTable::new(alloc),
-            links: Seq::new(alloc),
-            states: 0,
+            known: Known::new(alloc)?,
             greatest: 0,
             fault: None,
         })
+    }
+
+    /// Takes an event line, the `n`th of its text, with what it tells, and says what it does. After a refusal
+    /// each later call gives the same one; after `Memory` the entities may only be dropped.
+    ///
+    /// # Errors
+    ///
+    /// The first reason against the line, by the lines before it, in the order in which its event checks
+    /// them; `Memory`.
+    pub fn apply(&mut self, n: u32, fields: &Fields<'_>) -> Result<Effect, ModelFault>
+        requires { IsOpen self.old }
+        ensures exact { (before : List EventLine) → StandsFor before self.old
+            → Applies before (line_of n fields.now) self.new result }
+        ensures refused { (fault : ModelFault) → self.old.fault ≡ Some fault
+            → (result ≡ Err fault) × (self.new ≡ self.old) }
+    {
+        if let Some(fault) = self.fault {
+            return Err(fault);
+        }
+        let taken = self.known.take(n, fields);
+        self.greatest = self.greatest.max(fields.time());
+        if let Err(fault) = taken {
+            self.fault = Some(fault);
+        }
+        taken
+    }
+
+    /// What the lines say. Calls that are open are left where their tracks end.
+    pub fn finish(self) -> Result<TraceText, Memory>
+        requires { (lines : List EventLine) × StandsFor lines self }
+        ensures { (lines : List EventLine) → StandsFor lines self
+            → IfOk result (λ text. text ≡ text_said lines) }
+    {
+        let Entities {
+            known,
+            greatest,
+            ..
+        } = self;
+        known.finish(greatest)
     }
 }

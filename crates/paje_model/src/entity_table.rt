@@ -46,8 +46,8 @@ fn note(
 }
 
 impl EntityTable {
-    ghost use Rattle.paje_model.specs.Found.{has_alias, place_of};
-    ghost use Rattle.paje_model.specs.Values.{text_among};
+    ghost use Rattle.paje_lines.specs.Found.{has_alias, entity_place};
+    ghost use Rattle.paje_lines.specs.Values.{text_among};
     ghost use Rattle.paje_model.specs.EntityTable.{IsNamed, entities_in};
 
     /// Nothing is declared. It takes no memory.
@@ -72,7 +72,7 @@ impl EntityTable {
     /// The place of the entity of an alias, else of the first of a name; counted from 0.
     pub fn place(&self, text: &[u8]) -> Option<usize>
         requires { IsNamed self.now }
-        ensures { result ≡ place_of (entities_in self.now) text.now }
+        ensures { result ≡ entity_place (entities_in self.now) text.now }
     {
         match self.by_alias.get_index_of(text) {
             Some(place) => Some(place),

@@ -1,11 +1,19 @@
 //! The tracks of a trace, by their containers and state types.
-ghost use Rattle.std.specs.Prelude.{◌≡◌, [], ◌∷◌, ◌++◌, None, OnOk, position, option_map, slice_get};
-ghost use Rattle.paje_model.specs.States.{is_same};
+ghost use Rattle.std.specs.Prelude.{◌≡◌, ◌+◌, ◌≤◌, ◌<◌, ◌^◌, [], ◌∷◌, ◌++◌, Some, None, OnOk, IfOk, length};
+ghost use Rattle.std.specs.Prelude.{All, option_map, option_copied, position, slice_get, sum_by, true};
+ghost use Rattle.std.specs.List.{zip};
+ghost use Rattle.std.specs.Option.{option_and_then};
+ghost use Rattle.paje_lines.specs.EventLine.{pops, pushes};
+ghost use Rattle.paje_lines.specs.States.{is_same};
+ghost use Rattle.paje_model.specs.declared.open_track.OpenTrack.{OpenTrack};
 
+use crate::finished_tracks::{FinishedTracks, track_streams};
 use crate::open_track::OpenTrack;
 use indexmap::IndexMap;
+use paje_defs::EventName;
+use paje_lines::Effect;
 use std::alloc::Global;
-use trace_base::{Memory, Seq, Track};
+use trace_base::{Container, Memory, Seq, Track};
 
 /// A container and a state type, by their numbers.
 #[derive(Clone, Copy, Debug, PartialEq, Eq, Hash)]
@@ -23,7 +31,9 @@ pub struct TrackTable {
 }
 
 impl TrackTable {
-    ghost use Rattle.paje_model.specs.TrackTable.{tracks_kept, track_of};
+    ghost use Rattle.paje_model.specs.OpenTrack.{behind_event, effect_on};
+    ghost use Rattle.paje_model.specs.TrackTable.{tracks_kept, track_of, ChangesTrack, calls_at};
+    ghost use Rattle.paje_model.specs.Finished.{streams_within};
 
     /// No track. It takes no memory.
     pub fn new(alloc: Global) -> TrackTable
@@ -58,5 +68,99 @@ impl TrackTable {
         })?;
         self.places.insert(pair, ())?;
         Ok(())
+    }
+
+    /// How many tracks there are.
+    pub fn len(&self) -> usize
+        ensures { result ≡ length self.now.list.items }
+    {
+        self.list.len()
+    }
+
+    /// What was made of the track that was found at a place.
+    pub fn found(&self, place: Option<usize>) -> Option<&OpenTrack>
+        ensures { option_copied result ≡ option_and_then (slice_get self.now.list.items) place }
+    {
+        match place {
+            Some(place) => self.list.get(place),
+            None => None,
+        }
+    }
+
+    /// Adds what a state event does to the track at a place, and says what that is. An event that enters a
+    /// call enters the function of this number. After `Memory` the table may only be dropped.
+    pub fn change(
+        &mut self,
+        place: usize,
+        event: EventName,
+        function: u32,
+        time: u64,
+    ) -> Result<Effect, Memory>
+        requires place { place < length self.old.list.items }
+        requires open { (t : OpenTrack) → slice_get self.old.list.items place ≡ Some t → pops event ≡ true
+            → 1 ≤ t.open_calls }
+        requires room { (t : OpenTrack) → slice_get self.old.list.items place ≡ Some t → pushes event ≡ true
+            → t.open_calls + 1 < 2 ^ 32 }
+        ensures changed { OnOk result (ChangesTrack self.old self.new place
+            (behind_event event function time)) }
+        ensures effect { (t : OpenTrack) → slice_get self.old.list.items place ≡ Some t
+            → IfOk result (λ done. done ≡ effect_on event t) }
+    {
+        self.list[place].change(event, function, time)
+    }
+
+    /// How many calls of the track at a place are open.
+    fn calls(&self, place: u32) -> u32
+        ensures { result ≡ calls_at self.now place }
+    {
+        match self.list.get(place as usize) {
+            Some(track) => track.open_calls,
+            None => 0,
+        }
+    }
+
+    /// How many calls of the tracks at these places are open.
+    pub fn open_calls(&self, places: &[u32]) -> u32
+        requires { sum_by (calls_at self.now) places.now < 2 ^ 32 }
+        ensures { result ≡ sum_by (calls_at self.now) places.now }
+    {
+        let mut open = 0;
+        for place in places {
+            open += self.calls(*place);
+        }
+        open
+    }
+
+    /// The tracks, whose containers are among these, and their streams.
+    pub fn finish(self, containers: &[Container]) -> Result<FinishedTracks, Memory>
+        requires { All (λ track. track.container < length containers.now) (tracks_kept self) }
+        ensures tracks { IfOk result (λ finished. finished.tracks ≡ tracks_kept self) }
+        ensures streams { IfOk result (λ finished. finished.streams
+            ≡ streams_within containers.now (zip (tracks_kept self) self.list.items)) }
+    {
+        let TrackTable {
+            alloc,
+            places,
+            list,
+        } = self;
+        let tracks: Vec<Track> = places.into_keys().map(|pair| pair.track()).collect(alloc)?;
+        let streams = track_streams(alloc, tracks.as_slice(), list, containers)?;
+        Ok(FinishedTracks {
+            tracks: Seq::from_vec(tracks),
+            streams,
+        })
+    }
+}
+
+impl Pair {
+    ghost use Rattle.paje_model.specs.TrackTable.{track_of};
+
+    fn track(self) -> Track
+        ensures { result ≡ track_of self }
+    {
+        Track {
+            container: self.container,
+            kind: self.kind,
+        }
     }
 }

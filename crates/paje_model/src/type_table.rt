@@ -2,14 +2,14 @@
 ghost use Rattle.std.specs.Prelude.{◌≡◌, ◌<◌, ◌^◌, [], ◌∷◌, ◌++◌, length, find, slice_get, None, OnOk, IfOk};
 ghost use Rattle.std.specs.Prelude.{is_some, if◌then◌else◌, codes};
 ghost use Rattle.std.specs.Option.{option_map, option_and_then};
-ghost use Rattle.paje_model.specs.declared.type_sort.TypeSort.TheVariants.{Container};
-ghost use Rattle.paje_model.specs.Found.{has_alias, place_of, root, rooted};
-ghost use Rattle.paje_model.specs.Types.{state_number, link_number};
+ghost use Rattle.paje_lines.specs.declared.type_sort.TypeSort.TheVariants.{Container};
+ghost use Rattle.paje_lines.specs.Found.{has_alias, entity_place, root, rooted};
+ghost use Rattle.paje_lines.specs.Types.{state_number, link_number};
 
 use crate::entity_table::EntityTable;
-use crate::type_sort::TypeSort;
+use paje_lines::TypeSort;
 use std::alloc::Global;
-use trace_base::{Memory, Name};
+use trace_base::{Memory, Name, Seq};
 
 /// The text under which the root is found: `/` is another way to write `0`.
 pub fn rooted(text: &[u8]) -> &[u8]
@@ -83,7 +83,7 @@ impl TypeTable {
     pub fn sort(&self, text: &[u8]) -> Option<TypeSort>
         requires { IsNamed self.now.entities }
         ensures { result ≡ option_and_then (slice_get self.now.sorts.items)
-            (place_of (entities_in self.now.entities) (rooted text.now)) }
+            (entity_place (entities_in self.now.entities) (rooted text.now)) }
     {
         match self.entities.place(rooted(text)) {
             Some(place) => self.sorts.get(place).copied(),
@@ -106,6 +106,20 @@ impl TypeTable {
         self.sorts.len()
     }
 
+    /// How many state types there are.
+    pub fn kinds(&self) -> usize
+        ensures { result ≡ length self.now.kinds.items }
+    {
+        self.kinds.len()
+    }
+
+    /// How many link types there are.
+    pub fn link_kinds(&self) -> usize
+        ensures { result ≡ length self.now.link_kinds.items }
+    {
+        self.link_kinds.len()
+    }
+
     /// Adds a type behind the others. After `Memory` the table may only be dropped.
     pub fn add(
         &mut self,
@@ -124,5 +138,17 @@ impl TypeTable {
         note(self.alloc, &mut self.link_kinds, is_link(sort), name)?;
         self.sorts.push(sort)?;
         self.entities.add(rooted(alias), name, line)
+    }
+
+    /// The names of the state types and of the link types, in order. It takes no memory.
+    pub fn into_kinds(self) -> (Seq<Name>, Seq<Name>)
+        ensures { result ≡ (self.kinds.items, self.link_kinds.items) }
+    {
+        let TypeTable {
+            kinds,
+            link_kinds,
+            ..
+        } = self;
+        (Seq::from_vec(kinds), Seq::from_vec(link_kinds))
     }
 }

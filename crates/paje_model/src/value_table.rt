@@ -2,8 +2,8 @@
 ghost use Rattle.std.specs.Prelude.{◌≡◌, ◌<◌, ◌^◌, ◌+◌, [], ◌∷◌, ◌++◌, length, find, slice_set, None, OnOk};
 ghost use Rattle.std.specs.Prelude.{IfSome};
 ghost use Rattle.std.specs.Option.{option_map, option_and_then, option_copied};
-ghost use Rattle.paje_model.specs.Found.{has_alias};
-ghost use Rattle.paje_model.specs.Values.{text_among};
+ghost use Rattle.paje_lines.specs.Found.{has_alias};
+ghost use Rattle.paje_lines.specs.Values.{text_among};
 
 use crate::entity_table::EntityTable;
 use std::alloc::Global;
@@ -14,6 +14,8 @@ use trace_base::Memory;
 pub struct ValueTable {
     alloc: Global,
     of_kinds: Vec<EntityTable>,
+    /// How many values there are, over all state types.
+    count: u32,
 }
 
 impl ValueTable {
@@ -23,10 +25,12 @@ impl ValueTable {
     pub fn new(alloc: Global) -> ValueTable
         ensures values { values_kept result ≡ [] }
         ensures named { AreNamed result }
+        ensures count { result.count ≡ 0 }
     {
         ValueTable {
             alloc,
             of_kinds: Vec::new(alloc),
+            count: 0,
         }
     }
 
@@ -35,9 +39,17 @@ impl ValueTable {
         requires { AreNamed self.old }
         ensures values { OnOk result (values_kept self.new ≡ values_kept self.old ++ [] ∷ []) }
         ensures named { OnOk result (AreNamed self.new) }
+        ensures count { self.new.count ≡ self.old.count }
     {
         self.of_kinds.push(EntityTable::new(self.alloc))?;
         Ok(())
+    }
+
+    /// How many values there are, over all state types.
+    pub fn len(&self) -> u32
+        ensures { result ≡ self.now.count }
+    {
+        self.count
     }
 
     /// The line of the value of a state type that has the alias.
@@ -67,10 +79,13 @@ impl ValueTable {
         requires named { AreNamed self.old }
         requires new { find (has_alias alias.now) (values_at self.old kind) ≡ None }
         requires room { length (values_at self.old kind) < 2 ^ 32 }
+        requires count { self.old.count + 1 < 2 ^ 32 }
         ensures values { OnOk result (values_kept self.new ≡ slice_set (values_kept self.old) kind
             (values_at self.old kind ++ record { alias = alias.now; name = name.now; line = line } ∷ [])) }
         ensures named { OnOk result (AreNamed self.new) }
+        ensures count { self.new.count ≡ self.old.count + 1 }
     {
+        self.count += 1;
         self.of_kinds[kind].add(alias, name, line)
     }
 }

@@ -6,14 +6,15 @@ use Rattle.std.proofs.lemmas.List.Quantifiers.{position-Some}
 use Rattle.session_proto.specs.Request.{text_length}
 use Rattle.session_proto.specs.declared.request.Request.{Request}
 use Rattle.session_proto.specs.declared.request.Request.TheVariants as line
-use Rattle.request_reader.specs.Requests.{WholeRequest, Line, Load, Front, with_text, front_of, line_end}
+use Rattle.request_reader.specs.Requests.{WholeRequest, Line, load_of, Front, with_text, front_of, line_end}
 use Rattle.request_reader.specs.Requests.{front_at, first_request, rest_only, onto, requests_within}
 use Rattle.request_reader.specs.Requests.{requests_of}
 use Rattle.request_reader.specs.Requests.{AfterQuit}
 use Rattle.request_reader.specs.Incoming.{Spells}
 
 text_behind : (whole : Bool) (len : ℕ) (rest : List ℕ) (f : Front) →
-    (if whole then Some (record { request = Load (take len rest); rest = drop len rest }) else None) ≡ Some f
+    (if whole then Some (record { request = load_of (take len rest); rest = drop len rest }) else None)
+    ≡ Some f
     → length f.rest ≤ length rest
 text_behind true len rest f is = let e : drop len rest ≡ f.rest = cc
     in omega (arith, length-drop len rest, ap length e)

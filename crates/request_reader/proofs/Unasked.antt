@@ -7,7 +7,7 @@ use Rattle.std.specs.Prelude.{IsSome}
 use Rattle.std.proofs.lemmas.Bool.Decides.{nat_tests}
 use Rattle.session_proto.specs.Request.{request_of, text_length}
 use Rattle.session_proto.specs.declared.request.Request.{Request}
-use Rattle.request_reader.specs.Requests.{Front, Load, first_request, with_text, front_of}
+use Rattle.request_reader.specs.Requests.{Front, load_of, first_request, with_text, front_of}
 use Rattle.request_reader.specs.LineReading.{ReadsWaiting}
 use Rattle.request_reader.specs.Skipping.{HasNoNewline}
 use Rattle.request_reader.specs.declared.read_line.LineEnd.{LineEnd}
@@ -178,7 +178,7 @@ text_fits request len rest false e some = absurd (true≢false (sym (subst none 
   where
     none : Bool → Type 0
     none b = IsSome {T = Front} (if b then Some
-        (record { request = Load (take len rest); rest = drop len rest }) else None)
+        (record { request = load_of (take len rest); rest = drop len rest }) else None)
 
 -- a whole request that waits is a line, and the text behind it
 pub waiting_request : (bytes : List ℕ) → IsSome (first_request bytes) → (line rest : List ℕ)

@@ -2,9 +2,9 @@
 use Rattle.std.specs.Prelude.{◌≡◌, ◌≢◌, ℕ, ◌≤◌, length, List, [], ◌++◌, Option, None, Some, Result, Ok, Err}
 use Rattle.std.specs.Prelude.{option_map}
 use Rattle.trace_base.specs.Outside.{Told}
-use Rattle.trace_base.specs.declared.limits.TheConstants.{MAX_SMALL_TEXT}
+use Rattle.trace_base.specs.declared.limits.TheConstants.{MAX_TEXT}
 use Rattle.session_proto.specs.Request.{text_length, IsWithinLimits}
-use Rattle.request_reader.specs.Requests.{WholeRequest, Line, Load, Unreadable, first_request}
+use Rattle.request_reader.specs.Requests.{WholeRequest, Line, Load, Large, Unreadable, first_request}
 use Rattle.request_reader.specs.declared.incoming.Incoming.{Incoming}
 use Rattle.request_reader.specs.declared.incoming.Incoming.TheVariants as incoming
 use Rattle.request_reader.specs.declared.incoming.InputEnd.{InputEnd}
@@ -19,6 +19,7 @@ abbrev pub Is : Incoming → List ℕ → WholeRequest → Type 0
 Is (incoming.Line request) text r = r ≡ Line request
 Is incoming.Load text r = r ≡ Load text
 Is incoming.Dropped text r = (bytes : List ℕ) × (r ≡ Load bytes)
+Is incoming.Large text r = r ≡ Large
 Is incoming.Unreadable text r = r ≡ Unreadable
 
 -- what is left to read: the bytes that were given and wait in the buffer, and those of the source, where it
@@ -45,6 +46,7 @@ Comes old new text (Err end) = EndsInput old new end
 -- no text follows the line of a request, its numbers are within their limits, and a text isn't too long
 abbrev pub ComesWithinLimits : Incoming → List ℕ → Type 0
 ComesWithinLimits (incoming.Line request) text = (text_length request ≡ None) × IsWithinLimits request
-ComesWithinLimits incoming.Load text = length text ≤ MAX_SMALL_TEXT
+ComesWithinLimits incoming.Load text = length text ≤ MAX_TEXT
 ComesWithinLimits incoming.Dropped text = Unit {0}
+ComesWithinLimits incoming.Large text = Unit {0}
 ComesWithinLimits incoming.Unreadable text = Unit {0}

@@ -1,14 +1,17 @@
 -- How the bytes that a session reads are cut into requests.
 use Rattle.std.specs.Prelude.{ℕ, zero, suc, unwrap_or, ◌+◌, ◌==◌, nat_le, if◌then◌else◌, List, [], ◌∷◌}
 use Rattle.std.specs.Prelude.{length, take, drop, position, Option, None, Some, option_map}
+use Rattle.trace_base.specs.declared.limits.TheConstants.{MAX_TEXT}
 use Rattle.session_proto.specs.Request.{request_of, text_length}
 use Rattle.session_proto.specs.declared.request.Request.{Request}
 use Rattle.session_proto.specs.declared.request.Request.TheVariants as line
 
--- A whole request: a request line that no bytes follow, the text of a load, or a line that is no request.
+-- A whole request: a request line that no bytes follow, the text of a load, a load of a text that is too
+-- large to be read, or a line that is no request.
 pub data WholeRequest : Type 0 where
   Line : (request : Request) → WholeRequest
   Load : (text : List ℕ) → WholeRequest
+  Large : WholeRequest
   Unreadable : WholeRequest
 
 -- a request, and the bytes behind it
@@ -16,11 +19,15 @@ pub record Front : Type 0 where
   pub request : WholeRequest
   pub rest : List ℕ
 
+-- the load of a text
+abbrev pub load_of : List ℕ → WholeRequest
+load_of text = if nat_le (length text) MAX_TEXT then Load text else Large
+
 -- the request of a line that so many bytes of text follow, or none
 abbrev pub front_of : Request → Option ℕ → List ℕ → Option Front
 front_of request None rest = Some (record { request = Line request; rest = rest })
 front_of request (Some len) rest =
-    if nat_le len (length rest) then Some (record { request = Load (take len rest); rest = drop len rest })
+    if nat_le len (length rest) then Some (record { request = load_of (take len rest); rest = drop len rest })
     else None
 
 -- the request of a line, with the text behind it

@@ -9,6 +9,8 @@ pub enum Incoming {
     Load,
     /// `PUT len` and its bytes, for which no memory was found. They were read, and dropped.
     Dropped,
+    /// `PUT len` and its bytes, more than `MAX_TEXT`. They were read, and dropped.
+    Large,
     /// A line that is no request. No bytes behind it belong to it.
     Unreadable,
 }

@@ -16,8 +16,9 @@ use trace_base::Source;
 /// `buf.pending`. It may wait for input; the source isn't asked where a whole request waits.
 ///
 /// A line of more than `MAX_REQUEST_LINE` bytes is read to its end and is `Unreadable`. The bytes of a PUT,
-/// at most `MAX_SMALL_TEXT`, are in `buf.text` then; where no memory is found for them they are read all the
-/// same, and the answer is `Dropped`. On `Cut` and `Failed` the bytes of the request that was begun are lost.
+/// at most `MAX_TEXT`, are in `buf.text` then; where no memory is found for them they are read all the same,
+/// and the answer is `Dropped`. Where there are more they are read and not kept: `Large`. On `Cut` and
+/// `Failed` the bytes of the request that was begun are lost.
 pub fn next_request<R: Wait, I: Source>(
     rt: &R,
     input: &mut I,
@@ -45,9 +46,10 @@ pub fn next_request<R: Wait, I: Source>(
     let Some(len) = request.text_len() else {
         return Ok(Incoming::Line(request));
     };
-    match read_text(input, &mut buf.pending, &mut buf.text, len as usize) {
+    match read_text(input, &mut buf.pending, &mut buf.text, len) {
         TextEnd::Whole => Ok(Incoming::Load),
         TextEnd::Dropped => Ok(Incoming::Dropped),
+        TextEnd::Large => Ok(Incoming::Large),
         TextEnd::Cut => Err(InputEnd::Cut),
         TextEnd::Failed => Err(InputEnd::Failed),
     }

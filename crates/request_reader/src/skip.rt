@@ -42,7 +42,7 @@ pub fn skip_line<R: Wait, I: Source>(rt: &R, input: &mut I, pending: &mut Pendin
 }
 
 /// Reads this many bytes. Where they wait, the source isn't asked.
-pub fn skip_bytes<I: Source>(input: &mut I, pending: &mut Pending, count: usize) -> Skipped
+pub fn skip_bytes<I: Source>(input: &mut I, pending: &mut Pending, count: u64) -> Skipped
     ensures skips { Skips (λ taken. length taken ≡ count) (λ taken. length taken < count)
         (left_to_read pending.old (I.left input.old)) (left_to_read pending.new (I.left input.new)) result }
     ensures empties { EmptiesUnlessWhole result pending.new }

@@ -54,7 +54,7 @@ fn incoming_of(
 
 #[test]
 fn requests_and_ends(rt: HostRuntime) -> Result<(), Fail> {
-    let rows: [(&[u8], &[Came]); 11] = [
+    let rows: [(&[u8], &[Came]); 13] = [
         (b"", &[END]),
         (b"\n", &[UNREADABLE, END]),
         (b"QUIT", &[CUT]),
@@ -66,7 +66,12 @@ fn requests_and_ends(rt: HostRuntime) -> Result<(), Fail> {
         (b"PUT 9\nshort", &[CUT]),
         (b"PUT 9\n", &[CUT]),
         (b"PUT 0\n", &[LOAD, END]),
-        (b"PUT 65537\nFLAT 7 * 0 1\n", &[UNREADABLE, FLAT, END]),
+        (b"PUT 67108865\nFLAT 7 * 0 1\n", &[CUT]),
+        (b"PUT 18446744073709551615\nQUIT\n", &[CUT]),
+        (
+            b"PUT 18446744073709551616\nFLAT 7 * 0 1\n",
+            &[UNREADABLE, FLAT, END],
+        ),
         (
             b"FLAT 01 * 0 5\nLIST \nFLAT 7 * 1 1\nQUIT\n",
             &[UNREADABLE, UNREADABLE, UNREADABLE, QUIT, END],
@@ -133,7 +138,7 @@ fn long_lines(rt: HostRuntime) -> Result<(), Fail> {
     Ok(())
 }
 
-/// The longest text, over the end of a chunk, and a shorter one in its place.
+/// A text over the end of a chunk, and a shorter one in its place.
 #[test]
 fn texts(rt: HostRuntime) -> Result<(), Fail> {
     let mut text = vec![in rt.alloc(); b'x'; 65_535]?;

@@ -1,12 +1,12 @@
 -- The limits of the numbers in a request line.
-use Rattle.std.proofs.Common.{◌≡◌, refl, ℕ, ◌<◌, ◌≤◌, Bool, true, false, ◌&&◌, nat_le, nat_lt}
-use Rattle.std.proofs.Common.{if◌then◌else◌, List, [], ◌∷◌, length, Option, None, Some, arith}
+use Rattle.std.proofs.Common.{◌≡◌, refl, ℕ, ◌<◌, Bool, true, false, ◌&&◌, nat_le, nat_lt}
+use Rattle.std.proofs.Common.{if◌then◌else◌, List, [], ◌∷◌, length, Option, None, Some, option_map, arith}
 use Rattle.std.specs.Prelude.{codes, IfSome}
 use Rattle.std.specs.Str.{bytes_eq}
 use Rattle.std.proofs.lemmas.Bool.Decides.{nat_tests}
-use Rattle.trace_base.specs.declared.limits.TheConstants.{MAX_SMALL_TEXT, MAX_REQUEST_LINE, MAX_TIME}
-use Rattle.session_proto.specs.Request.{request_of, request_of_words, words_of, number_of, put_of, flat_of}
-use Rattle.session_proto.specs.Request.{IsWithinLimits, text_length}
+use Rattle.trace_base.specs.declared.limits.TheConstants.{MAX_REQUEST_LINE, MAX_TIME}
+use Rattle.session_proto.specs.Request.{request_of, request_of_words, words_of, number_of, flat_of}
+use Rattle.session_proto.specs.Request.{IsWithinLimits}
 use Rattle.session_proto.specs.declared.request.Request.{Request}
 use Rattle.session_proto.specs.declared.request.Request.TheVariants.{Put, Flat, Quit}
 use Rattle.session_proto.specs.declared.request.Sel.TheVariants.{All}
@@ -19,12 +19,9 @@ limited_if : (t : Bool) (q : Option Request) → IsLimited q → IsLimited (if t
 limited_if true q h = h
 limited_if false q h = tt
 
-limited_put : (o : Option ℕ) → IsLimited (put_of o)
+limited_put : (o : Option ℕ) → IsLimited (option_map (λ n. Put n) o)
 limited_put None = tt
-limited_put (Some len) = at (nat_le len MAX_SMALL_TEXT) refl where
-  at : (t : Bool) → nat_le len MAX_SMALL_TEXT ≡ t → IsLimited (if t then Some (Put len) else None)
-  at true e = grind (arith, nat_tests)
-  at false e = tt
+limited_put (Some len) = tt
 
 limited_flat : (id a b : Option ℕ) → IsLimited (flat_of id a b)
 limited_flat (Some id) (Some a) (Some b) = at (nat_lt a b) (nat_le b MAX_TIME) refl refl where
@@ -41,8 +38,8 @@ limited_flat None a b = tt
 limited_words : (words : List (List ℕ)) → IsLimited (request_of_words words)
 limited_words [] = tt
 limited_words (verb ∷ []) = limited_if (bytes_eq verb (codes "QUIT")) (Some Quit) tt
-limited_words (verb ∷ len ∷ []) = limited_if (bytes_eq verb (codes "PUT")) (put_of (number_of len))
-    (limited_put (number_of len))
+limited_words (verb ∷ len ∷ []) = limited_if (bytes_eq verb (codes "PUT"))
+    (option_map (λ n. Put n) (number_of len)) (limited_put (number_of len))
 limited_words (verb ∷ id ∷ sel ∷ []) = tt
 limited_words (verb ∷ id ∷ sel ∷ a ∷ []) = tt
 limited_words (verb ∷ id ∷ sel ∷ a ∷ b ∷ []) =
@@ -61,9 +58,3 @@ pub request_of-long : (bytes : List ℕ) → MAX_REQUEST_LINE < length bytes →
 unfolding request_of
 request_of-long bytes long =
     let no : nat_le (length bytes) MAX_REQUEST_LINE ≡ false = grind (arith, nat_tests) in rw no refl
-
--- so is the length of its text
-pub text_limited : (request : Request) (len : ℕ) → IsWithinLimits request → text_length request ≡ Some len
-    → len ≤ MAX_SMALL_TEXT
-text_limited (Put n) len limited is = let same : n ≡ len = cc in omega (arith, same, limited)
-text_limited request len limited is = absurd (cc)

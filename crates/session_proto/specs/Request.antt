@@ -1,9 +1,9 @@
 -- What a request line says. The line stands without its newline.
-use Rattle.std.specs.Prelude.{ℕ, ◌^◌, ◌≤◌, ◌<◌, Bool, not, ◌&&◌, ◌||◌, ◌==◌, nat_lt, nat_le, if◌then◌else◌}
-use Rattle.std.specs.Prelude.{List, [], ◌∷◌, length, slice_index, Option, None, Some, codes}
+use Rattle.std.specs.Prelude.{ℕ, ◌≤◌, ◌<◌, Bool, not, ◌&&◌, ◌||◌, ◌==◌, nat_lt, nat_le, if◌then◌else◌}
+use Rattle.std.specs.Prelude.{List, [], ◌∷◌, length, slice_index, Option, None, Some, option_map, codes}
 use Rattle.std.specs.Str.{bytes_eq}
 use Rattle.decimal_digits.specs.Decimal.{decimal_of}
-use Rattle.trace_base.specs.declared.limits.TheConstants.{MAX_SMALL_TEXT, MAX_REQUEST_LINE, MAX_TIME}
+use Rattle.trace_base.specs.declared.limits.TheConstants.{MAX_REQUEST_LINE, MAX_TIME}
 use Rattle.session_proto.specs.declared.request.Request.{Request}
 use Rattle.session_proto.specs.declared.request.Request.TheVariants.{Put, Flat, Quit}
 use Rattle.session_proto.specs.declared.request.Sel.TheVariants.{All}
@@ -26,11 +26,6 @@ unfoldable pub words_of : List ℕ → List (List ℕ)
 words_of [] = [] ∷ []
 words_of (c ∷ cs) = if c == 32 then [] ∷ words_of cs else onto_first c (words_of cs)
 
--- a text that isn't too long
-abbrev pub put_of : Option ℕ → Option Request
-put_of None = None
-put_of (Some len) = if nat_le len MAX_SMALL_TEXT then Some (Put len) else None
-
 -- an interval that begins before it ends, within the greatest time
 abbrev pub flat_of : Option ℕ → Option ℕ → Option ℕ → Option Request
 flat_of (Some id) (Some a) (Some b) = if nat_lt a b && nat_le b MAX_TIME then Some (Flat id All a b) else None
@@ -42,7 +37,8 @@ flat_of None a b = None
 abbrev pub request_of_words : List (List ℕ) → Option Request
 request_of_words [] = None
 request_of_words (verb ∷ []) = if bytes_eq verb (codes "QUIT") then Some Quit else None
-request_of_words (verb ∷ len ∷ []) = if bytes_eq verb (codes "PUT") then put_of (number_of len) else None
+request_of_words (verb ∷ len ∷ []) =
+    if bytes_eq verb (codes "PUT") then option_map (λ n. Put n) (number_of len) else None
 request_of_words (verb ∷ id ∷ sel ∷ []) = None
 request_of_words (verb ∷ id ∷ sel ∷ a ∷ []) = None
 request_of_words (verb ∷ id ∷ sel ∷ a ∷ b ∷ []) =
@@ -61,6 +57,6 @@ text_length request = None
 
 -- the numbers of the request are within their limits
 abbrev pub IsWithinLimits : Request → Type 0
-IsWithinLimits (Put len) = len ≤ MAX_SMALL_TEXT
+IsWithinLimits (Put len) = Unit {0}
 IsWithinLimits (Flat id sel a b) = (a < b) × (b ≤ MAX_TIME)
 IsWithinLimits Quit = Unit {0}

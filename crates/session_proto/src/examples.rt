@@ -8,7 +8,8 @@ ghost use Rattle.session_proto.specs.declared.request.Sel.TheVariants.{All};
 #[tactic(auto, unfolding(crate::specs::Request::number_of, crate::specs::Request::words_of, crate::specs::Request::request_of))]
 pub fn request_lines()
     ensures put { request_of (codes "PUT 697") ≡ Some (Put 697) }
-    ensures long_put { request_of (codes "PUT 65537") ≡ None }
+    ensures greatest_put { request_of (codes "PUT 18446744073709551615") ≡ Some (Put 18446744073709551615) }
+    ensures too_great_put { request_of (codes "PUT 18446744073709551616") ≡ None }
     ensures flat { request_of (codes "FLAT 1 * 0 500000000") ≡ Some (Flat 1 All 0 500000000) }
     ensures zero { request_of (codes "FLAT 01 * 0 5") ≡ None }
     ensures reversed { request_of (codes "FLAT 1 * 5 5") ≡ None }

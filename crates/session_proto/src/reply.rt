@@ -12,8 +12,10 @@ pub struct NamedRow {
 pub enum No {
     /// The line is no request.
     Grammar,
-    /// The trace isn't of the small form that is read so far.
-    Unbuilt,
+    /// This line of the trace is refused, counted from 1, for the reason that the word says.
+    Text(u32, &'static str),
+    /// The trace has more than `MAX_TEXT` bytes.
+    Large,
     /// No trace of this id is open before this place.
     Unknown { id: u64, place: u64 },
     /// As of this place the most traces are open.

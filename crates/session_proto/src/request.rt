@@ -5,7 +5,7 @@ ghost use Rattle.session_proto.specs.Request.{IsWithinLimits};
 
 use crate::number::number;
 use crate::words::split_word;
-use trace_base::{MAX_REQUEST_LINE, MAX_SMALL_TEXT, MAX_TIME};
+use trace_base::{MAX_REQUEST_LINE, MAX_TIME};
 
 /// Which tracks a query is about.
 #[derive(Clone, Copy, Debug, PartialEq, Eq)]
@@ -17,7 +17,7 @@ pub enum Sel {
 /// A request line. Its numbers are decimal digits with no sign and no zero in front, and below 2^64.
 #[derive(Clone, Copy, Debug, PartialEq, Eq)]
 pub enum Request {
-    /// `PUT len`: a trace text of so many bytes follows, at most `MAX_SMALL_TEXT`.
+    /// `PUT len`: a trace text of so many bytes follows.
     Put(u64),
     /// `FLAT id * a b`: the flat profile of a trace over the half-open interval [a, b), in nanoseconds; b is
     /// at most `MAX_TIME`.
@@ -83,10 +83,7 @@ fn parse_put(rest: &[u8]) -> Option<Request>
     ensures { result ≡ request_of_words (codes "PUT" ∷ words_of rest.now) }
 {
     match split_word(rest) {
-        (word, None) => match number(word) {
-            Some(len) if len <= MAX_SMALL_TEXT => Some(Request::Put(len)),
-            _ => None,
-        },
+        (word, None) => number(word).map(Request::Put),
         (_, Some(_)) => None,
     }
 }

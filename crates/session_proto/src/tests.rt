@@ -17,10 +17,14 @@ const fn flat(id: u64, a: u64, b: u64) -> Request {
 
 #[test]
 fn each_request_is_read_up_to_its_greatest_numbers(rt: HostRuntime) -> Result<(), Fail> {
-    let rows: [(&[u8], Request); 10] = [
+    let rows: [(&[u8], Request); 11] = [
         (b"PUT 0", Request::Put(0)),
         (b"PUT 697", Request::Put(697)),
-        (b"PUT 65536", Request::Put(65_536)),
+        (b"PUT 67108865", Request::Put(67_108_865)),
+        (
+            b"PUT 18446744073709551615",
+            Request::Put(18_446_744_073_709_551_615),
+        ),
         (b"FLAT 1 * 0 500000000", flat(1, 0, 500_000_000)),
         (b"FLAT 0 * 0 1", flat(0, 0, 1)),
         (b"FLAT 10 * 203 204", flat(10, 203, 204)),
@@ -53,8 +57,7 @@ fn assert_none(rt: &impl Abort, lines: &[&[u8]]) {
 
 #[test]
 fn a_put_that_misses_the_grammar_by_one_thing_is_none(rt: HostRuntime) {
-    let numbers: [&[u8]; 12] = [
-        b"PUT 65537",
+    let numbers: [&[u8]; 10] = [
         b"PUT 01",
         b"PUT 00",
         b"PUT +1",
@@ -63,7 +66,6 @@ fn a_put_that_misses_the_grammar_by_one_thing_is_none(rt: HostRuntime) {
         b"PUT 1.0",
         b"PUT 1_0",
         b"PUT 0x1",
-        b"PUT 18446744073709551615",
         b"PUT 18446744073709551616",
         b"PUT 18446744073709551617",
     ];
@@ -179,9 +181,14 @@ fn text_of(alloc: Global, reply: &Reply) -> Result<Vec<u8>, Memory> {
 
 #[test]
 fn the_text_of_each_refusal(rt: HostRuntime) -> Result<(), Fail> {
-    let rows: [(No, &[u8]); 9] = [
+    let rows: [(No, &[u8]); 11] = [
         (No::Grammar, b"NO 10\n"),
-        (No::Unbuilt, b"NO 29\n"),
+        (No::Text(37, "EmptyPop"), b"NO 20 37 EmptyPop\n"),
+        (
+            No::Text(4_294_967_295, "MissingField"),
+            b"NO 20 4294967295 MissingField\n",
+        ),
+        (No::Large, b"NO 21\n"),
         (No::Unknown { id: 7, place: 12 }, b"NO 30 7 @12\n"),
         (No::Unknown { id: 0, place: 1 }, b"NO 30 0 @1\n"),
         (
@@ -317,20 +324,26 @@ fn each_text_is_added_behind_what_is_there(rt: HostRuntime) -> Result<(), Fail> 
         messages: 3,
         place: 8,
     };
-    let replies = [
-        &put,
-        &profile,
-        &Reply::No(No::Grammar),
-        &Reply::No(No::Full(10)),
-        &Reply::Quit,
-    ];
     let mut out = Vec::from_slice(rt.alloc(), b"not \na reply")?;
-    for reply in replies {
-        write_reply(reply, &mut out)?;
-    }
+    write_reply(&put, &mut out)?;
+    write_reply(&profile, &mut out)?;
+    write_reply(&Reply::No(No::Grammar), &mut out)?;
+    write_reply(&Reply::No(No::Full(10)), &mut out)?;
+    write_reply(&Reply::Quit, &mut out)?;
     assert_eq!(rt;
         out.as_slice(),
         b"not \na replyOK PUT 5 1 2 3 @8\nOK FLAT 1 3 1000 @9\n1 2 40 30 main\nNO 10\nNO 36 1024 @10\nOK QUIT\n".as_slice()
     );
+    Ok(())
+}
+
+// No word of this crate's own is so long.
+#[test]
+fn a_word_of_many_bytes_is_told_whole(rt: HostRuntime) -> Result<(), Fail> {
+    let word =
+        "aWordThatIsLongerThanAHundredBytesSoThatTheRoomOfAShortReplyDoesNotSufficeForItAndMoreHasToBeFoundForTheLineThatTellsIt";
+    let text = text_of(rt.alloc(), &Reply::No(No::Text(1, word)))?;
+    let want = format!(in rt.alloc(); "NO 20 1 {word}\n")?;
+    assert_eq!(rt; text.as_slice(), want.as_bytes());
     Ok(())
 }

@@ -2,6 +2,7 @@ ghost use Rattle.std.specs.Prelude.{◌≡◌, ◌+◌, ◌≤◌, ◌<◌, ◌�
 ghost use Rattle.std.specs.Prelude.{OnErr, IsOk, IsTrue, vec_len, vec_capacity};
 ghost use Rattle.std.specs.List.{flat_map};
 ghost use Rattle.session_proto.specs.Reply.{spaced, at_place, row_text, no_text, reply_text, is_short};
+ghost use Rattle.session_proto.specs.Reply.{is_short_refusal};
 
 use crate::reply::{NamedRow, No, Reply};
 use itoa::Buffer;
@@ -69,15 +70,41 @@ fn add_place(out: &mut Vec<u8>, place: u64)
     add(out, b"\n");
 }
 
-// Adds the line of a refusal.
-fn add_refusal(out: &mut Vec<u8>, no: &No)
-    requires { vec_len out.old + 100 ≤ vec_capacity out.old }
-    ensures items { out.new.items ≡ out.old.items ++ no_text no.now }
+// Adds the line of a text that is refused. Without memory for it nothing is added.
+fn add_text_refusal(out: &mut Vec<u8>, line: u32, word: &str) -> Result<(), Memory>
+    ensures ok { OnOk result (out.new.items ≡ out.old.items
+        ++ (codes "NO 20" ++ spaced line ++ 32 ∷ word.now ++ 10 ∷ [])) }
+    ensures err { OnErr result (out.new.items ≡ out.old.items) }
+    ensures short { length word.now ≤ 100 → vec_len out.old + 200 ≤ vec_capacity out.old → IsOk result }
+    ensures capacity { vec_capacity out.old ≤ vec_capacity out.new }
+{
+    let word = word.as_bytes();
+    let Some(room) = word.len().checked_add(100) else {
+        return Err(Memory);
+    };
+    if out.reserve(room).is_err() {
+        return Err(Memory);
+    }
+    add(out, b"NO 20");
+    add_spaced(out, u64::from(line));
+    add(out, b" ");
+    add(out, word);
+    add(out, b"\n");
+    Ok(())
+}
+
+// Adds the line of a refusal. Without memory for a long word nothing is added.
+fn add_refusal(out: &mut Vec<u8>, no: &No) -> Result<(), Memory>
+    requires { vec_len out.old + 200 ≤ vec_capacity out.old }
+    ensures ok { OnOk result (out.new.items ≡ out.old.items ++ no_text no.now) }
+    ensures err { OnErr result (out.new.items ≡ out.old.items) }
+    ensures short { IsTrue (is_short_refusal no.now) → IsOk result }
     ensures capacity { vec_capacity out.old ≤ vec_capacity out.new }
 {
     match no {
         No::Grammar => add(out, b"NO 10\n"),
-        No::Unbuilt => add(out, b"NO 29\n"),
+        No::Text(line, word) => return add_text_refusal(out, *line, word),
+        No::Large => add(out, b"NO 21\n"),
         No::Unknown { id, place } => {
             add(out, b"NO 30");
             add_spaced(out, *id);
@@ -95,6 +122,7 @@ fn add_refusal(out: &mut Vec<u8>, no: &No)
         }
         No::Memory => add(out, b"NO 41\n"),
     }
+    Ok(())
 }
 
 // Adds the line of a trace that is open.
@@ -163,7 +191,7 @@ fn add_rows(out: &mut Vec<u8>, rows: &[NamedRow]) -> Result<(), Memory>
 }
 
 /// Adds the text of a reply at the end. On `Memory` the text is as before; where there is room for 200 more
-/// bytes, a reply of one line can't fail.
+/// bytes, a reply of one line can't fail, unless a word in it has more than 100 bytes.
 #[tactic(auto, unfolding(crate::specs::Reply::reply_text))]
 pub fn write_reply(reply: &Reply, out: &mut Vec<u8>) -> Result<(), Memory>
     ensures ok { OnOk result (out.new.items ≡ out.old.items ++ reply_text reply.now) }
@@ -195,10 +223,7 @@ pub fn write_reply(reply: &Reply, out: &mut Vec<u8>) -> Result<(), Memory>
             add(out, b"OK QUIT\n");
             Ok(())
         }
-        Reply::No(no) => {
-            add_refusal(out, no);
-            Ok(())
-        }
+        Reply::No(no) => add_refusal(out, no),
     }
 }
 

@@ -8,11 +8,8 @@
 /// The greatest time, in nanoseconds: 2^62.
 pub const MAX_TIME: u64 = 4_611_686_018_427_387_904;
 
-/// Bytes of the text of one trace. The reader of whole Pajé texts will cite it.
+/// Bytes of the text of one trace.
 pub const MAX_TEXT: u64 = 67_108_864;
-
-/// Bytes of a text in the small form, the greatest that a PUT takes so far.
-pub const MAX_SMALL_TEXT: u64 = 65_536;
 
 /// Bytes of one line of a trace, without its end.
 pub const MAX_TRACE_LINE: usize = 65_536;
@@ -35,7 +32,7 @@ pub const MAX_FUNCTIONS: u32 = 65_536;
 /// Containers of one trace, the root included.
 pub const MAX_CONTAINERS: u32 = 65_536;
 
-/// Declared values of the state types of one trace. The Pajé reader's entities will cite it.
+/// Declared values of the state types of one trace.
 pub const MAX_VALUES: u32 = 65_536;
 
 /// Declared types of one trace.

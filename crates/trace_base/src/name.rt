@@ -29,6 +29,13 @@ impl Name {
         }
     }
 
+    /// The name of the vector's bytes. It takes no memory.
+    pub fn from_vec(bytes: Vec<u8>) -> Name
+        ensures { result ≡ bytes.items }
+    {
+        Name { bytes }
+    }
+
     /// The bytes, in order.
     pub fn as_bytes(&self) -> &[u8]
         ensures { result.now ≡ self.now }

@@ -1,12 +1,14 @@
 -- What a load that was let in, or not, makes of a PUT.
 use Rattle.std.proofs.Common.{◌≡◌, ℕ, Bool, List, [], ◌∷◌, ◌++◌, length, take, Option, None, Some, Result}
-use Rattle.std.proofs.Common.{Err, refl, sym, ap, ◌∙◌, subst, inl, inr, arith, append-nil}
+use Rattle.std.proofs.Common.{Bor, Err, refl, sym, ap, ◌∙◌, subst, inl, inr, arith, append-nil}
 use Rattle.std.proofs.lemmas.List.{take_all}
 use Rattle.std.proofs.Math.Seq.{take-append_seam}
 use Rattle.std.specs.Bool.{OnTrue}
 use Rattle.trace_base.specs.Outside.{Told}
 use Rattle.trace_base.specs.declared.limits.TheConstants.{MAX_OPEN_TRACES}
-use Rattle.trace_base.specs.declared.messages.Message.{Message}
+use Rattle.trace_base.specs.declared.messages.LinkEvent.{LinkEvent}
+use Rattle.trace_base.specs.declared.messages.MsgTable.{MsgTable}
+use Rattle.trace_base.specs.Messages.{table_of}
 use Rattle.trace_base.specs.declared.names.TraceInfo.{TraceInfo}
 use Rattle.trace_base.specs.declared.text.TraceText.{TraceText}
 use Rattle.hall_trait.specs.Answers.{Admits, AdmitRecords, HasRoom, places_taken, places_of_load, RecordsNone}
@@ -19,7 +21,12 @@ use Rattle.hall_trait.specs.declared.pass.LoadPass.{LoadPass}
 use Rattle.session_proto.specs.declared.reply.No.TheVariants as no
 use Rattle.session_proto.specs.declared.reply.Reply.{Reply}
 use Rattle.session_proto.specs.declared.reply.Reply.TheVariants as reply
-use Rattle.small_form.specs.SmallForm.{small_form, small_info_of}
+use Rattle.paje_lines.specs.Text.{info_of_text}
+use Rattle.paje_reader.specs.TextSaid.{Says, Reads, text_refusal}
+use Rattle.paje_reader.specs.Words.{word_of}
+use Rattle.paje_reader.specs.declared.read_fault.ReadFault.{ReadFault}
+use Rattle.paje_reader.specs.declared.read_fault.ReadFault.TheVariants.{Refused}
+use Rattle.paje_reader.specs.declared.read_fault.ReadRefusal.{ReadRefusal}
 use Rattle.request_reader.specs.Requests.{WholeRequest, Load}
 use Rattle.trace_session.specs.Load.{PublishesAll, GivesUp}
 use Rattle.trace_session.specs.Replies.{opened_reply}
@@ -77,8 +84,8 @@ used_up_still alone old new n p m = (
 
 -- the most traces were open
 pub Serves-full : (alone : Bool) (old new : Backend) (text : List ℕ) (t : TraceText) (place : ℕ)
-    → small_form text ≡ Some t → IsAtRest old.seat
-    → TellsFull alone old.seat new.seat (small_info_of t) place → RecordsNone old.used_up new.used_up
+    → Says text t → IsAtRest old.seat
+    → TellsFull alone old.seat new.seat (info_of_text t) place → RecordsNone old.used_up new.used_up
     → Serves alone old new (Load text) (reply.No (no.Full place))
 Serves-full alone old new text t place form rest m none =
     let grows = Grows-one alone old.seat new.seat Asked place m.entered in
@@ -94,7 +101,7 @@ Serves-full alone old new text t place form rest m none =
         refl,
         refl,
         subst (λ (h : List Entry). length (open_ids h) ≡ MAX_OPEN_TRACES) (sym whole) m.full,
-        had_places alone old.seat.seen new.seat.seen (places_of_load (small_info_of t)) place
+        had_places alone old.seat.seen new.seat.seen (places_of_load (info_of_text t)) place
             (take place new.seat.seen) grows.seen m.room,
       );
       rest = record { no_pins = m.pins ∙ rest.no_pins; no_passes = m.passes ∙ rest.no_passes };
@@ -103,14 +110,14 @@ Serves-full alone old new text t place form rest m none =
 
 -- the trace was opened and sealed
 pub Serves-opened : (alone : Bool) (old new : Backend) (mid : Seat) (text : List ℕ) (t : TraceText)
-    (pass : LoadPass) (place : ℕ) → small_form text ≡ Some t
-    → OpensTrace alone old.seat mid (small_info_of t) pass
+    (pass : LoadPass) (place : ℕ) → Says text t
+    → OpensTrace alone old.seat mid (info_of_text t) pass
     → PublishesAll alone mid new.seat pass.id t.tracks place → RecordsNone old.used_up new.used_up
     → Serves alone old new (Load text) (opened_reply pass.id t place)
 Serves-opened alone old new mid text t pass place form m p none =
-    let opened = Grows-one alone old.seat mid (Opened pass.id (small_info_of t)) pass.place m.entered in
+    let opened = Grows-one alone old.seat mid (Opened pass.id (info_of_text t)) pass.place m.entered in
     let all = Grows-trans alone old.seat mid new.seat (pass.place ∷ []) (p.before ++ place ∷ [])
-    (Opened pass.id (small_info_of t) ∷ []) (published_from pass.id 0 t.tracks ++ Sealed pass.id ∷ []) opened
+    (Opened pass.id (info_of_text t) ∷ []) (published_from pass.id 0 t.tracks ++ Sealed pass.id ∷ []) opened
     p.grows
     in
     let block = pass.place ∷ p.before ++ place ∷ [] in
@@ -124,7 +131,7 @@ Serves-opened alone old new mid text t pass place form m p none =
         form,
         refl,
         ap (λ (k : ℕ). opened_reply pass.id t k) (sym last),
-        had_places alone old.seat.seen new.seat.seen (places_of_load (small_info_of t)) (last_place block)
+        had_places alone old.seat.seen new.seat.seen (places_of_load (info_of_text t)) (last_place block)
             (take (last_place block) new.seat.seen) all.seen m.room,
       );
       rest = p.rest;
@@ -133,16 +140,16 @@ Serves-opened alone old new mid text t pass place form m p none =
 
 -- the load was given up
 pub Serves-dropped : (alone : Bool) (old new : Backend) (mid : Seat) (text : List ℕ) (t : TraceText)
-    (pass : LoadPass) → small_form text ≡ Some t → OpensTrace alone old.seat mid (small_info_of t) pass
+    (pass : LoadPass) → Says text t → OpensTrace alone old.seat mid (info_of_text t) pass
     → GivesUp alone mid new.seat pass.id t.tracks → RecordsNone old.used_up new.used_up
     → Serves alone old new (Load text) (reply.No no.Memory)
 Serves-dropped alone old new mid text t pass form m p none =
-    let opened = Grows-one alone old.seat mid (Opened pass.id (small_info_of t)) pass.place m.entered in
+    let opened = Grows-one alone old.seat mid (Opened pass.id (info_of_text t)) pass.place m.entered in
     record {
       block = pass.place ∷ p.block;
       entries = dropped_entries pass.id t p.count;
       grows = Grows-trans alone old.seat mid new.seat (pass.place ∷ []) p.block
-          (Opened pass.id (small_info_of t)
+          (Opened pass.id (info_of_text t)
           ∷ [])
           (published_from pass.id 0 (take p.count t.tracks) ++ Dropped pass.id ∷ []) opened p.grows;
       answered = inr (pass.id, p.count, t, form, refl);
@@ -150,11 +157,23 @@ Serves-dropped alone old new mid text t pass form m p none =
       records = records_none old.used_up new.used_up none;
     }
 
--- the text isn't in the small form, or there was no memory to read it
-pub put_unbuilt : (alone : Bool) (s : Backend) (text : List ℕ) → IsAtRest s.seat → small_form text ≡ None
-    → Serves alone s s (Load text) (reply.No no.Unbuilt)
-put_unbuilt alone s text rest form = Serves-still alone s s (Load text) (reply.No no.Unbuilt) refl rest
-    (form, refl) (records_none s.used_up s.used_up refl)
+-- a line of the text is refused, or there was no memory to read it
+refusal_read : (text : List ℕ) (fault : ReadFault) (refusal : ReadRefusal) → Reads text (Err fault)
+    → fault ≡ Refused refusal → text_refusal text ≡ Some refusal
+refusal_read text fault refusal (inl memory) is = absurd (cc)
+refusal_read text fault refusal (inr told) is =
+    let both : Refused told.0 ≡ Refused refusal = sym told.1 ∙ is in
+    let same : told.0 ≡ refusal = cc in told.2 ∙ ap (λ (r : ReadRefusal). Some r) same
+
+pub put_refused : {read : ReadRefusal} (alone : Bool) (s : Backend) (text : List ℕ) (word : Bor (List ℕ))
+    (fault : ReadFault) (refusal : ReadRefusal) → IsAtRest s.seat → Reads text (Err fault)
+    → fault ≡ Refused refusal → read ≡ refusal → word.now ≡ word_of read.why
+    → Serves alone s s (Load text) (reply.No (no.Text read.line word))
+put_refused {read} alone s text word fault refusal rest reads is same told =
+    let refused : text_refusal text ≡ Some read =
+    refusal_read text fault refusal reads is ∙ ap (λ (r : ReadRefusal). Some r) (sym same) in
+    Serves-still alone s s (Load text) (reply.No (no.Text read.line word)) refl rest
+    (read, refused, refl, told, refl) (records_none s.used_up s.used_up refl)
 
 pub put_memory : (alone : Bool) (s : Backend) (text : List ℕ) → IsAtRest s.seat
     → Serves alone s s (Load text) (reply.No no.Memory)
@@ -169,20 +188,20 @@ refusal (fault.Full place) = reply.No (no.Full place)
 
 -- the trace wasn't let in
 refused_by : (alone : Bool) (old new : Backend) (text : List ℕ) (t : TraceText) (f : HallFault)
-    → small_form text ≡ Some t → IsAtRest old.seat → Admits alone old.seat new.seat (small_info_of t) (Err f)
+    → Says text t → IsAtRest old.seat → Admits alone old.seat new.seat (info_of_text t) (Err f)
     → AdmitRecords old.used_up new.used_up (Err f) → Serves alone old new (Load text) (refusal f)
 refused_by alone old new text t fault.Memory form rest m told =
     Serves-still alone old new (Load text) (reply.No no.Memory) m rest (inl refl)
     (records_none old.used_up new.used_up told)
 refused_by alone old new text t (fault.Spent n) form rest m told =
     Serves-still alone old new (Load text) (reply.No (no.Spent n)) m.same rest
-    (t, form, refl, used_up_still alone old.seat new.seat (places_of_load (small_info_of t)) n m) told
+    (t, form, refl, used_up_still alone old.seat new.seat (places_of_load (info_of_text t)) n m) told
 refused_by alone old new text t (fault.Full place) form rest m told =
     Serves-full alone old new text t place form rest m told
 
 pub Serves-refused : (alone : Bool) (old new : Backend) (text : List ℕ) (t : TraceText) (info : TraceInfo)
-    (r : Result LoadPass HallFault) (f : HallFault) → small_form text ≡ Some t → IsAtRest old.seat
-    → info ≡ small_info_of t → r ≡ Err f → Admits alone old.seat new.seat info r
+    (r : Result LoadPass HallFault) (f : HallFault) → Says text t → IsAtRest old.seat
+    → info ≡ info_of_text t → r ≡ Err f → Admits alone old.seat new.seat info r
     → AdmitRecords old.used_up new.used_up r → Serves alone old new (Load text) (refusal f)
 Serves-refused alone old new text t info r f form rest same is answer told =
     let by_result = subst (λ (x : Result LoadPass HallFault). Admits alone old.seat new.seat info x) is answer
@@ -191,13 +210,15 @@ Serves-refused alone old new text t info r f form rest same is answer told =
     refused_by alone old new text t f form rest by_info
     (subst (λ (x : Result LoadPass HallFault). AdmitRecords old.used_up new.used_up x) is told)
 
--- the info of a trace whose list of messages is empty
-abbrev pub with_messages : TraceText → List Message → TraceInfo
-with_messages t messages = record {
-  names = t.names;
-  messages = record { messages = messages; unmatched = 0 };
-}
+-- the info that was made of a trace
+abbrev pub with_messages : TraceText → MsgTable → TraceInfo
+with_messages t messages = record { names = t.names; messages = messages }
 
-pub info_with : (t : TraceText) (info : TraceInfo) (messages : List Message) → info ≡ with_messages t messages
-    → messages ≡ [] → info ≡ small_info_of t
-info_with t info messages is none = is ∙ ap (with_messages t) none
+pub table_made : (t : TraceText) (messages : MsgTable) (links : List LinkEvent) → messages ≡ table_of links
+    → links ≡ t.links → messages ≡ table_of t.links
+table_made t messages links made same = made ∙ ap table_of same
+
+pub info_made : (t : TraceText) (info : TraceInfo) (messages : MsgTable) (links : List LinkEvent)
+    → info ≡ with_messages t messages → messages ≡ table_of links → links ≡ t.links → info ≡ info_of_text t
+info_made t info messages links is made same =
+    is ∙ ap (with_messages t) (table_made t messages links made same)

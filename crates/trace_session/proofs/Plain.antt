@@ -1,7 +1,7 @@
 -- Requests that need nothing of the hall, and the request that came.
 use Rattle.std.proofs.Common.{◌≡◌, ℕ, Bool, List, refl, sym, subst}
 use Rattle.hall_trait.specs.Seat.{IsAtRest}
-use Rattle.request_reader.specs.Requests.{WholeRequest, Line, Load, Unreadable}
+use Rattle.request_reader.specs.Requests.{WholeRequest, Line, Load, Large, Unreadable}
 use Rattle.session_proto.specs.declared.reply.No.TheVariants as no
 use Rattle.session_proto.specs.declared.reply.Reply.{Reply}
 use Rattle.session_proto.specs.declared.reply.Reply.TheVariants as reply
@@ -27,6 +27,12 @@ pub serves_dropped : (alone : Bool) (s : Backend) (request : WholeRequest) → I
 serves_dropped alone s request rest is =
     subst (λ (r : WholeRequest). Serves alone s s r (reply.No no.Memory)) (sym is.1)
     (put_memory alone s is.0 rest)
+
+pub serves_large : (alone : Bool) (s : Backend) (request : WholeRequest) → IsAtRest s.seat
+    → request ≡ Large → Serves alone s s request (reply.No no.Large)
+serves_large alone s request rest is =
+    subst (λ (r : WholeRequest). Serves alone s s r (reply.No no.Large)) (sym is)
+    (Serves-still alone s s Large (reply.No no.Large) refl rest refl (records_none s.used_up s.used_up refl))
 
 -- the request that was served is the one that came
 pub serves_line : (alone : Bool) (old new : Backend) (request : WholeRequest) (line : Request) (r : Reply)

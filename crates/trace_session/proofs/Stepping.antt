@@ -8,7 +8,7 @@ use Rattle.session_proto.specs.declared.reply.Reply.TheVariants as reply
 use Rattle.session_proto.specs.declared.request.Request.TheVariants as line
 use Rattle.request_reader.specs.Incoming.{Comes, Is, Spells, Takes}
 use Rattle.request_reader.proofs.Cutting.{first_request-nil}
-use Rattle.request_reader.specs.Requests.{WholeRequest, Line, Load, Unreadable, first_request}
+use Rattle.request_reader.specs.Requests.{WholeRequest, Line, Load, Large, Unreadable, first_request}
 use Rattle.request_reader.specs.declared.incoming.Incoming.{Incoming}
 use Rattle.request_reader.specs.declared.incoming.Incoming.TheVariants as incoming
 use Rattle.request_reader.specs.declared.incoming.InputEnd.{InputEnd}
@@ -48,6 +48,7 @@ quit_came : (i : Incoming) (text : List ℕ) (request : WholeRequest) → Is i t
 quit_came (incoming.Line q) text request is came = let same : q ≡ line.Quit = cc in is ∙ ap (λ z. Line z) same
 quit_came incoming.Load text request is came = absurd (cc)
 quit_came incoming.Dropped text request is came = absurd (cc)
+quit_came incoming.Large text request is came = absurd (cc)
 quit_came incoming.Unreadable text request is came = absurd (cc)
 
 came_quit : (i : Incoming) (text : List ℕ) (request : WholeRequest) → Is i text request
@@ -59,6 +60,8 @@ came_quit incoming.Load text request is quits =
     let both : Load text ≡ Line line.Quit = sym is ∙ quits in absurd (cc)
 came_quit incoming.Dropped text request is quits =
     let both : Load is.0 ≡ Line line.Quit = sym is.1 ∙ quits in absurd (cc)
+came_quit incoming.Large text request is quits =
+    let both : Large ≡ Line line.Quit = sym is ∙ quits in absurd (cc)
 came_quit incoming.Unreadable text request is quits =
     let both : Unreadable ≡ Line line.Quit = sym is ∙ quits in absurd (cc)
 
@@ -105,6 +108,7 @@ came i text None (Some y) t = absurd t
 came (incoming.Line request) text None None t = (Line request, refl, tt)
 came incoming.Load text None None t = (Load text, refl, tt)
 came incoming.Dropped text None None t = (Load [], ([], refl), tt)
+came incoming.Large text None None t = (Large, refl, tt)
 came incoming.Unreadable text None None t = (Unreadable, refl, tt)
 
 steps_by : (alone : Bool) (old new : SessionState) (pending : List ℕ) (request : WholeRequest)

@@ -4,6 +4,7 @@ use Rattle.std.specs.Prelude.{map, filter_map, slice_get, slice_index_or, Option
 use Rattle.std.specs.List.{range_with_len}
 use Rattle.std.specs.Option.{option_map_or}
 use Rattle.trace_base.specs.Flat.{flat}
+use Rattle.trace_base.specs.Messages.{table_of}
 use Rattle.trace_base.specs.declared.names.TraceInfo.{TraceInfo}
 use Rattle.trace_base.specs.declared.profile.Row.{Row}
 use Rattle.trace_base.specs.declared.profile.Profile.{Profile}
@@ -22,7 +23,8 @@ entry_at history (suc i) = slice_get history i
 
 -- the reply to a text whose trace was opened under this id
 abbrev pub opened_reply : ℕ → TraceText → ℕ → Reply
-opened_reply id t place = reply.Put id (length t.names.tracks) (length t.names.functions) 0 place
+opened_reply id t place = reply.Put id (length t.names.tracks) (length t.names.functions)
+    (length (table_of t.links).messages) place
 
 -- the streams of the tracks of a trace that are published, by track
 unfoldable pub streams_of : List Entry → ℕ → List TrackStream

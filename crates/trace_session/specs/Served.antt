@@ -13,8 +13,11 @@ use Rattle.session_proto.specs.declared.reply.Reply.{Reply}
 use Rattle.session_proto.specs.declared.reply.Reply.TheVariants as reply
 use Rattle.session_proto.specs.declared.request.Request.TheVariants.{Flat, Quit}
 use Rattle.session_proto.specs.declared.request.Sel.TheVariants.{All}
-use Rattle.small_form.specs.SmallForm.{small_form, small_info_of}
-use Rattle.request_reader.specs.Requests.{WholeRequest, Line, Load, Unreadable}
+use Rattle.paje_lines.specs.Text.{info_of_text}
+use Rattle.paje_reader.specs.TextSaid.{Says, text_refusal}
+use Rattle.paje_reader.specs.Words.{word_of}
+use Rattle.paje_reader.specs.declared.read_fault.ReadRefusal.{ReadRefusal}
+use Rattle.request_reader.specs.Requests.{WholeRequest, Line, Load, Large, Unreadable}
 use Rattle.trace_session.specs.Replies.{entry_at, opened_reply, flat_reply}
 
 -- the request, how many entries the seat had seen when it came, its block, which is the places of its
@@ -32,11 +35,11 @@ published_from id track (s ∷ ss) = Published id track s ∷ published_from id 
 
 -- the entries of a trace that was opened and sealed
 abbrev pub load_entries : ℕ → TraceText → List Entry
-load_entries id t = Opened id (small_info_of t) ∷ published_from id 0 t.tracks ++ Sealed id ∷ []
+load_entries id t = Opened id (info_of_text t) ∷ published_from id 0 t.tracks ++ Sealed id ∷ []
 
 -- those of a load that was given up behind n tracks
 abbrev pub dropped_entries : ℕ → TraceText → ℕ → List Entry
-dropped_entries id t n = Opened id (small_info_of t) ∷ published_from id 0 (take n t.tracks) ++ Dropped id
+dropped_entries id t n = Opened id (info_of_text t) ∷ published_from id 0 (take n t.tracks) ++ Dropped id
     ∷ []
 
 -- the block has these entries at its places
@@ -82,25 +85,29 @@ IsUsedUp s n p = LeavesNoRoom n p × OnTrue s.alone (p ≡ places_taken s.before
 
 -- The table of blocks: a request, its reply, the entries of its block, and what holds then.
 abbrev pub IsAnswered : Standing → WholeRequest → Reply → List Entry → Type 0
--- a text in the small form is opened, published and sealed
+-- the trace of a text is opened, published and sealed
 IsAnswered s (Load text) (reply.Put id tracks functions messages place) entries =
-    (t : TraceText) × (small_form text ≡ Some t) × (entries ≡ load_entries id t)
+    (t : TraceText) × Says text t × (entries ≡ load_entries id t)
     × (reply.Put id tracks functions messages place ≡ opened_reply id t s.place)
-    × HasPlaces s (places_of_load (small_info_of t))
+    × HasPlaces s (places_of_load (info_of_text t))
 -- or the most traces are open
 IsAnswered s (Load text) (reply.No (no.Full place)) entries =
-    (t : TraceText) × (small_form text ≡ Some t) × (entries ≡ Asked ∷ []) × (place ≡ s.place)
-    × (length (open_ids s.seen) ≡ MAX_OPEN_TRACES) × HasPlaces s (places_of_load (small_info_of t))
+    (t : TraceText) × Says text t × (entries ≡ Asked ∷ []) × (place ≡ s.place)
+    × (length (open_ids s.seen) ≡ MAX_OPEN_TRACES) × HasPlaces s (places_of_load (info_of_text t))
 -- or the places are used up
 IsAnswered s (Load text) (reply.No (no.Spent p)) entries =
-    (t : TraceText) × (small_form text ≡ Some t) × (entries ≡ [])
-    × IsUsedUp s (places_of_load (small_info_of t)) p
+    (t : TraceText) × Says text t × (entries ≡ [])
+    × IsUsedUp s (places_of_load (info_of_text t)) p
 -- or there was no memory, and what was begun was given up
 IsAnswered s (Load text) (reply.No no.Memory) entries =
-    (entries ≡ []) ⊎ ((id n : ℕ) × (t : TraceText) × (small_form text ≡ Some t)
+    (entries ≡ []) ⊎ ((id n : ℕ) × (t : TraceText) × Says text t
     × (entries ≡ dropped_entries id t n))
--- another text is refused
-IsAnswered s (Load text) (reply.No no.Unbuilt) entries = (small_form text ≡ None) × (entries ≡ [])
+-- a text of which a line is refused says no trace
+IsAnswered s (Load text) (reply.No (no.Text line word)) entries =
+    (refusal : ReadRefusal) × (text_refusal text ≡ Some refusal) × (line ≡ refusal.line)
+    × (word.now ≡ word_of refusal.why) × (entries ≡ [])
+-- a large text isn't looked at
+IsAnswered s Large (reply.No no.Large) entries = entries ≡ []
 -- a profile over all tracks asks, and so does one of a trace that isn't open
 IsAnswered s (Line (Flat id All a b)) (reply.Flat over bare rows place) entries =
     (entries ≡ Asked ∷ []) × (reply.Flat over bare rows place ≡ flat_reply s.seen s.place id a b)

@@ -10,9 +10,8 @@ ghost use Rattle.session_proto.specs.Reply.{reply_text};
 ghost use Rattle.session_proto.specs.declared.reply.No.TheVariants.{Full, Unknown};
 ghost use Rattle.session_proto.specs.declared.reply.Reply.TheVariants.{Put as PutReply, Flat as FlatReply};
 ghost use Rattle.session_proto.specs.declared.reply.Reply.TheVariants.{No as NoReply};
-ghost use Rattle.small_form.specs.Examples.{small_two_calls};
 ghost use Rattle.trace_session.specs.Replies.{flat_reply};
-ghost use Rattle.trace_session.specs.Examples.{first_input, first_history};
+ghost use Rattle.trace_session.specs.Examples.{first_text, first_input, first_history};
 ghost use Rattle.trace_session.specs.Served.{last_place, Served, IsServed};
 
 /// The pieces of main calling f twice.
@@ -28,10 +27,10 @@ pub fn pieces_of_two_calls()
 {}
 
 /// The first session's input is three requests.
-#[tactic(auto, unfolding(session_proto::specs::Request::number_of, session_proto::specs::Request::words_of, session_proto::specs::Request::request_of, request_reader::specs::Requests::first_request, request_reader::specs::Requests::requests_within, request_reader::specs::Requests::requests_of, small_form::specs::Examples::small_two_calls, small_form::specs::SmallForm::head, crate::specs::Examples::first_input))]
+#[tactic(auto, unfolding(session_proto::specs::Request::number_of, session_proto::specs::Request::words_of, session_proto::specs::Request::request_of, request_reader::specs::Requests::first_request, request_reader::specs::Requests::requests_within, request_reader::specs::Requests::requests_of, crate::specs::Examples::first_text, crate::specs::Examples::first_input))]
 pub fn requests_of_first_input()
     ensures { requests_of first_input ≡ record {
-      all = Load small_two_calls ∷ Line (Flat 1 All 0 500000000) ∷ Line Quit
+      all = Load first_text ∷ Line (Flat 1 All 0 500000000) ∷ Line Quit
           ∷ [];
       ending = AfterQuit;
     } }

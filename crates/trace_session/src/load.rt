@@ -1,43 +1,46 @@
-ghost use Rattle.std.specs.Prelude.{◌≡◌, ◌≤◌, ℕ, List, [], ◌∷◌, length, Some};
+ghost use Rattle.std.specs.Prelude.{◌≡◌, ◌≤◌, ℕ, List, [], ◌∷◌, length};
 ghost use Rattle.trace_base.specs.Info.{IsLegalInfo};
 ghost use Rattle.hall_trait.specs.Seat.{IsAtRest};
 ghost use Rattle.request_reader.specs.Requests.{Load};
-ghost use Rattle.small_form.specs.SmallForm.{small_form, small_info_of};
+ghost use Rattle.paje_lines.specs.Text.{info_of_text};
+ghost use Rattle.paje_reader.specs.TextSaid.{Says};
 ghost use Rattle.trace_session.specs.Serving.{Serves};
 ghost use Rattle.hall_trait.specs.Pass.{pass_view, IsFresh};
 ghost use Rattle.trace_session.specs.Load.{AreTracksOf, FitAll, Publishes};
 
 use hall_trait::{Hall, HallFault, LoadPass};
+use message_lists::match_links;
+use paje_reader::{ReadFault, read_trace};
 use session_proto::{No, Reply};
-use small_form::{SmallFault, read_small};
 use std::alloc::Global;
 use std::sync::{Arc, Wait};
-use trace_base::{MAX_SMALL_TEXT, MsgTable, Seq, TraceInfo, TraceText, TrackStream};
+use trace_base::{MAX_TEXT, Seq, TraceInfo, TraceText, TrackStream};
 
-/// Serves the load of this text: where it is in the small form, its trace is opened.
-#[tactic(auto, using(crate::proofs::Opening::put_unbuilt, crate::proofs::Opening::put_memory))]
+/// Serves the load of this text: where none of its lines is refused, its trace is opened.
+#[tactic(auto, using(crate::proofs::Opening::put_memory))]
 pub fn serve_load<R: Wait, H: Hall>(rt: &R, alloc: Global, hall: &mut H, text: &[u8]) -> Reply
     requires rest { IsAtRest (H.seat hall.old) }
-    requires limit { length text.now ≤ MAX_SMALL_TEXT }
+    requires limit { length text.now ≤ MAX_TEXT }
     ensures { Serves H.alone
         (record { seat = H.seat hall.old; used_up = H.used_up hall.old })
         (record { seat = H.seat hall.new; used_up = H.used_up hall.new }) (Load text.now) result }
 {
-    match read_small(alloc, text) {
+    match read_trace(alloc, text) {
         Ok(trace) => open_trace(rt, alloc, hall, trace),
-        Err(SmallFault::Unbuilt) => Reply::No(No::Unbuilt),
-        Err(SmallFault::Memory) => Reply::No(No::Memory),
+        Err(ReadFault::Refused(refusal)) => {
+            Reply::No(No::Text(refusal.line, refusal.why.word()))
+        }
+        Err(ReadFault::Memory) => Reply::No(No::Memory),
     }
 }
 
 // Opens a legal trace, publishes its tracks and seals it.
 fn open_trace<R: Wait, H: Hall>(rt: &R, alloc: Global, hall: &mut H, trace: TraceText) -> Reply
     requires rest { IsAtRest (H.seat hall.old) }
-    requires legal { IsLegalInfo (small_info_of trace) }
+    requires legal { IsLegalInfo (info_of_text trace) }
     requires lengths { length trace.tracks ≡ length trace.names.tracks }
-    requires fits { FitAll (small_info_of trace) trace.tracks }
-    ensures { (text : List ℕ) → small_form text ≡ Some trace
-        → Serves H.alone
+    requires fits { FitAll (info_of_text trace) trace.tracks }
+    ensures { (text : List ℕ) → Says text trace → Serves H.alone
         (record { seat = H.seat hall.old; used_up = H.used_up hall.old })
         (record { seat = H.seat hall.new; used_up = H.used_up hall.new }) (Load text) result }
 {
@@ -46,13 +49,13 @@ fn open_trace<R: Wait, H: Hall>(rt: &R, alloc: Global, hall: &mut H, trace: Trac
         tracks,
         links,
     } = trace;
+    let Ok(messages) = match_links(alloc, links.as_slice()) else {
+        return Reply::No(No::Memory);
+    };
     drop(links);
     let track_count = names.tracks.len() as u64;
     let functions = names.functions.len() as u64;
-    let messages = MsgTable {
-        messages: Seq::new(alloc),
-        unmatched: 0,
-    };
+    let message_count = messages.messages.len() as u64;
     let Ok(info) = Arc::new(alloc, TraceInfo { names, messages }) else {
         return Reply::No(No::Memory);
     };
@@ -64,7 +67,7 @@ fn open_trace<R: Wait, H: Hall>(rt: &R, alloc: Global, hall: &mut H, trace: Trac
                     id,
                     tracks: track_count,
                     functions,
-                    messages: 0,
+                    messages: message_count,
                     place,
                 },
                 None => Reply::No(No::Memory),

@@ -14,7 +14,7 @@ use std::alloc::Global;
 use std::sync::Wait;
 
 /// Serves what came. The text is that of a load.
-#[tactic(auto, using(crate::proofs::Plain::serves_line, crate::proofs::Plain::serves_load, crate::proofs::Plain::serves_unreadable, crate::proofs::Plain::serves_dropped))]
+#[tactic(auto, using(crate::proofs::Plain::serves_line, crate::proofs::Plain::serves_load, crate::proofs::Plain::serves_unreadable, crate::proofs::Plain::serves_dropped, crate::proofs::Plain::serves_large))]
 pub fn serve<R: Wait, H: Hall>(
     rt: &R,
     alloc: Global,
@@ -32,6 +32,7 @@ pub fn serve<R: Wait, H: Hall>(
         Incoming::Line(request) => serve_line(rt, alloc, hall, request),
         Incoming::Load => serve_load(rt, alloc, hall, text),
         Incoming::Dropped => Reply::No(No::Memory),
+        Incoming::Large => Reply::No(No::Large),
         Incoming::Unreadable => Reply::No(No::Grammar),
     }
 }

@@ -10,7 +10,7 @@ use std::sync::Wait;
 use std::test::Fail;
 use trace_base::{Faults, MemSink, MemSource, ReadAnswer, Seq, Sink, Source, WriteAnswer};
 
-/// The head of a small text.
+/// The definitions and types with which most texts begin.
 const HEAD: &str =
     "%EventDef PajeDefineContainerType 0\n% Alias string\n% Type string\n% Name string\n%EndEventDef\n%EventDef PajeDefineStateType 1\n% Alias string\n% Type string\n% Name string\n%EndEventDef\n%EventDef PajeCreateContainer 2\n% Time date\n% Alias string\n% Type string\n% Container string\n% Name string\n%EndEventDef\n%EventDef PajeDestroyContainer 3\n% Time date\n% Type string\n% Name string\n%EndEventDef\n%EventDef PajePushState 4\n% Time date\n% Type string\n% Container string\n% Value string\n%EndEventDef\n%EventDef PajePopState 5\n% Time date\n% Type string\n% Container string\n%EndEventDef\n0 P 0 Process\n1 S P State\n";
 
@@ -119,19 +119,68 @@ fn the_first_session(rt: HostRuntime) -> Result<(), Fail> {
 fn refusals(rt: HostRuntime) -> Result<(), Fail> {
     let alloc = rt.alloc();
     let rows = [
-        ("PUT 2\nabQUIT\n", "NO 29\nOK QUIT\n"),
+        ("PUT 2\nabQUIT\n", "NO 20 1 NoNumber\nOK QUIT\n"),
         ("LIST\nFLAT 7 * 0 1\nQUIT\n", "NO 10\nNO 30 7 @1\nOK QUIT\n"),
         (
             "FLAT 01 * 0 5\nLIST \n\nQUIT\n",
             "NO 10\nNO 10\nNO 10\nOK QUIT\n",
         ),
-        ("PUT 65537\nQUIT\n", "NO 10\nOK QUIT\n"),
+        ("PUT 18446744073709551616\nQUIT\n", "NO 10\nOK QUIT\n"),
     ];
     for (text, replies) in rows {
         let (end, written) = served(&rt, alloc, text.as_bytes(), 100, &[], &[])?;
         assert_eq!(rt; end, End::Quit);
         assert_eq!(rt; written.as_slice(), replies.as_bytes(), "at {text:?}");
     }
+    Ok(())
+}
+
+// A text with these lines behind its head is put, and its trace is asked for.
+fn refused(rt: &impl Wait, alloc: Global, lines: &str) -> Result<(End, Vec<u8>), Fail> {
+    let len = HEAD.len().saturating_add(lines.len());
+    let text = format!(in alloc; "PUT {len}\n{HEAD}{lines}FLAT 1 * 0 1\nQUIT\n")?;
+    served(rt, alloc, text.as_bytes(), 4096, &[], &[])
+}
+
+// The first lines behind the head have the numbers 36 and 37.
+#[test]
+fn a_refused_text_leaves_no_entry(rt: HostRuntime) -> Result<(), Fail> {
+    let alloc = rt.alloc();
+    let rows = [
+        ("2 0 p0 P 0 \"rank 0\"\n5 0 S p0\n", "37 EmptyPop"),
+        (
+            "2 0 p0 P 0 \"rank 0\"\n4 0 S p0 \"my func\"\n2 0 p0 P 0 x\n",
+            "38 DoubleAlias",
+        ),
+        ("2 0 p0 P 0 \"a\n", "36 OpenQuote"),
+        ("#\n2 x p0 P 0 a\n2 y p1 P 0 b\n", "37 DateShape"),
+        ("%EventDef PajeNewEvent 6\n% Time date\n", "38 Unended"),
+    ];
+    for (lines, told) in rows {
+        let (end, written) = refused(&rt, alloc, lines)?;
+        assert_eq!(rt; end, End::Quit);
+        let want = format!(in alloc; "NO 20 {told}\nNO 30 1 @1\nOK QUIT\n")?;
+        assert_eq!(rt; written.as_slice(), want.as_bytes(), "of {lines:?}");
+    }
+    Ok(())
+}
+
+/// Definitions of link types and of the two ends of messages; then five of these, of which four are the ends
+/// of two messages.
+const MESSAGES: &str =
+    "%EventDef PajeDefineLinkType 6\n% Alias string\n% Type string\n% SourceContainerType string\n% DestContainerType string\n% Name string\n%EndEventDef\n%EventDef PajeStartLink 7\n% Time date\n% Type string\n% Container string\n% Value string\n% SourceContainer string\n% Key string\n% Size int\n%EndEventDef\n%EventDef PajeEndLink 8\n% Time date\n% Type string\n% Container string\n% Value string\n% DestContainer string\n% Key string\n%EndEventDef\n6 K P P P Msg\n2 0 p0 P 0 a\n2 0 p1 P 0 b\n7 1 K 0 x p0 k1 100\n7 2 K 0 x p0 k1 50\n8 1.5 K 0 x p1 k1\n7 3 K 0 x p1 k2 7\n8 2.5 K 0 x p0 k2\n";
+
+#[test]
+fn a_trace_with_messages(rt: HostRuntime) -> Result<(), Fail> {
+    let alloc = rt.alloc();
+    let len = HEAD.len().saturating_add(MESSAGES.len());
+    let text = format!(in alloc; "PUT {len}\n{HEAD}{MESSAGES}FLAT 1 * 0 1\nQUIT\n")?;
+    let (end, written) = served(&rt, alloc, text.as_bytes(), 4096, &[], &[])?;
+    assert_eq!(rt; end, End::Quit);
+    assert_eq!(rt;
+        written.as_slice(),
+        b"OK PUT 1 0 0 2 @2\nOK FLAT 0 0 0 @3\nOK QUIT\n".as_slice()
+    );
     Ok(())
 }
 
@@ -147,7 +196,7 @@ fn the_most_traces(rt: HostRuntime) -> Result<(), Fail> {
     let (end, written) = served(&rt, alloc, text.as_bytes(), 4096, &[], &[])?;
     assert_eq!(rt; end, End::Quit);
     let replies = written.as_slice();
-    assert!(rt; replies.starts_with(b"NO 29\nOK PUT 1 0 0 0 @2\nOK PUT 2 0 0 0 @4\n"));
+    assert!(rt; replies.starts_with(b"NO 20 1 NoNumber\nOK PUT 1 0 0 0 @2\nOK PUT 2 0 0 0 @4\n"));
     assert!(rt;
         replies.ends_with(
             b"OK PUT 1024 0 0 0 @2048\nNO 36 1024 @2049\nOK FLAT 0 0 0 @2050\nOK QUIT\n"
@@ -464,7 +513,7 @@ fn each_reply_stands_before_the_next_read(rt: HostRuntime) -> Result<(), Fail> {
     let seen = log.try_borrow()?;
     assert_eq!(rt;
         seen.as_slice(),
-        b">PUT 2\nabNO 29\n>FLAT 7 * 0 1\nNO 30 7 @1\n>LIST\nNO 10\n>QUIT\nOK QUIT\n".as_slice()
+        b">PUT 2\nabNO 20 1 NoNumber\n>FLAT 7 * 0 1\nNO 30 7 @1\n>LIST\nNO 10\n>QUIT\nOK QUIT\n".as_slice()
     );
     Ok(())
 }

@@ -4,7 +4,7 @@ ghost use Rattle.trace_session.specs.Text.{IsTold};
 
 use session_proto::{No, Reply, write_reply};
 
-/// Puts the text of a reply in place of what the buffer holds. Where there is no memory for a profile, that
+/// Puts the text of a reply in place of what the buffer holds. Where there is no memory for a long one, that
 /// is told in its place.
 pub fn reply_into(reply: &Reply, out: &mut Vec<u8>)
     requires { 200 ≤ vec_capacity out.old }

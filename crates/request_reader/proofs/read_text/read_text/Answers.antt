@@ -26,7 +26,7 @@ loop-pending-preserved g c =
           m.1)
           (λ s t first behind. ap (λ l. l ++ t) first ∙ ap (λ l. longer ++ l) behind
           ∙ ap (λ l. l ++ m.0) (sym c.in-Ok.ensures.items) ∙ sym m.2);
-      count = omega (
+      most = omega (
         arith,
         inside,
         ap length m.2,

@@ -1,15 +1,14 @@
-use Rattle.std.proofs.Common.{◌≡◌, ◌≢◌, ℕ, length, List, [], Option, None, Some, refl, ◌∙◌, sym, ap}
-use Rattle.std.proofs.Common.{subst, arith, IfSome}
-use Rattle.session_proto.specs.Request.{request_of, text_length, IsWithinLimits}
-use Rattle.session_proto.specs.declared.request.Request.{Request}
-use Rattle.session_proto.proofs.Limits.{text_limited}
+use Rattle.std.proofs.Common.{◌≡◌, ◌≢◌, ◌≤◌, ℕ, length, List, [], None, Some, refl, ◌∙◌, sym, ap}
+use Rattle.std.proofs.Common.{arith}
+use Rattle.trace_base.specs.declared.limits.TheConstants.{MAX_TEXT}
+use Rattle.session_proto.specs.Request.{request_of, text_length}
 use Rattle.request_reader.specs.Incoming.{Spells, left_to_read}
 use Rattle.request_reader.specs.Requests.{Line, Load, Unreadable, first_request}
 use Rattle.request_reader.specs.declared.incoming.Incoming.TheVariants as incoming
 use Rattle.request_reader.specs.Skipping.{HasNoNewline}
 use Rattle.request_reader.specs.LineReading.{IsLongLine}
-use Rattle.request_reader.proofs.Coming.{IsLine, spells-long, takes-load, takes-dropped, takes-short}
-use Rattle.request_reader.proofs.Coming.{comes_as}
+use Rattle.request_reader.proofs.Coming.{IsLine, spells-long, takes-load, takes-dropped, takes-large}
+use Rattle.request_reader.proofs.Coming.{takes-short, comes_as}
 use Rattle.request_reader.proofs.Spelling.{first_request-cut, spells-line, spells-unreadable}
 use Rattle.request_reader.proofs.Taking.{takes-so}
 use Rattle.request_reader.proofs.Unasked.{line_unasked, text_unasked}
@@ -101,6 +100,7 @@ returns-in-Whole-read_text-clause-comes g c =
     ap request_of (sym c.as_slice.ensures) ∙ sym c.parse_request.ensures.request ∙ c.in-Some.is in
     let text : List ℕ = c.read_text.new.text.items in
     let len : length text ≡ c.in-Some-text_len.len = c.in-Whole-read_text.ensures.reads.1 in
+    let within : length text ≤ MAX_TEXT = omega (arith, len, c.in-Whole-read_text.ensures.reads.2) in
     let follows : text_length c.in-Some.request ≡ Some (length text) =
     sym c.text_len.ensures ∙ c.in-Some-text_len.is ∙ ap (λ n. Some n) (sym len) in
     comes_as incoming.Load text (Load text)
@@ -110,19 +110,8 @@ returns-in-Whole-read_text-clause-comes g c =
     (left_to_read c.args.buf.now.pending (g.I.Source.left c.args.input.now))
     (left_to_read c.read_line.new.pending (g.I.Source.left c.read_line.new.input))
     (left_to_read c.read_text.new.pending (g.I.Source.left c.read_text.new.input))
-    c.in-Whole.ensures.reads.1 is follows c.in-Whole.ensures.reads.0 c.in-Whole-read_text.ensures.reads.0)
-
-pub returns-in-Whole-read_text-clause-limits : goal.returns-in-Whole-read_text-clause-limits
-returns-in-Whole-read_text-clause-limits g c =
-    let follows : text_length c.in-Some.request ≡ Some c.in-Some-text_len.len =
-    sym c.text_len.ensures ∙ c.in-Some-text_len.is in
-    let limited = subst (λ (o : Option Request). IfSome o IsWithinLimits) c.in-Some.is
-    c.parse_request.ensures.limits in
-    omega (
-      arith,
-      text_limited c.in-Some.request c.in-Some-text_len.len limited follows,
-      c.in-Whole-read_text.ensures.reads.1,
-    )
+    c.in-Whole.ensures.reads.1 is follows within c.in-Whole.ensures.reads.0
+    c.in-Whole-read_text.ensures.reads.0)
 
 pub returns-in-Dropped-clause-comes : goal.returns-in-Dropped-clause-comes
 returns-in-Dropped-clause-comes g c =
@@ -134,7 +123,21 @@ returns-in-Dropped-clause-comes g c =
     (left_to_read c.args.buf.now.pending (g.I.Source.left c.args.input.now))
     (left_to_read c.read_line.new.pending (g.I.Source.left c.read_line.new.input))
     (left_to_read c.read_text.new.pending (g.I.Source.left c.read_text.new.input))
-    c.in-Whole.ensures.reads.1 is follows c.in-Whole.ensures.reads.0 c.in-Dropped.ensures.reads
+    c.in-Whole.ensures.reads.1 is follows c.in-Dropped.ensures.reads.1 c.in-Whole.ensures.reads.0
+    c.in-Dropped.ensures.reads.0
+
+pub returns-in-Large-clause-comes : goal.returns-in-Large-clause-comes
+returns-in-Large-clause-comes g c =
+    let is : request_of c.read_line.new.line ≡ Some c.in-Some.request =
+    ap request_of (sym c.as_slice.ensures) ∙ sym c.parse_request.ensures.request ∙ c.in-Some.is in
+    let follows : text_length c.in-Some.request ≡ Some c.in-Some-text_len.len =
+    sym c.text_len.ensures ∙ c.in-Some-text_len.is in
+    takes-large c.read_line.new.line c.read_text.new.text.items c.in-Some.request c.in-Some-text_len.len
+    (left_to_read c.args.buf.now.pending (g.I.Source.left c.args.input.now))
+    (left_to_read c.read_line.new.pending (g.I.Source.left c.read_line.new.input))
+    (left_to_read c.read_text.new.pending (g.I.Source.left c.read_text.new.input))
+    c.in-Whole.ensures.reads.1 is follows c.in-Large.ensures.reads.1 c.in-Whole.ensures.reads.0
+    c.in-Large.ensures.reads.0
 
 pub returns-in-Cut-read_text-clause-comes : goal.returns-in-Cut-read_text-clause-comes
 returns-in-Cut-read_text-clause-comes g c =
@@ -178,6 +181,16 @@ returns-in-Whole-read_text-clause-unasked g c =
 
 pub returns-in-Dropped-clause-unasked : goal.returns-in-Dropped-clause-unasked
 returns-in-Dropped-clause-unasked g c =
+    let is : request_of c.read_line.new.line ≡ Some c.in-Some.request =
+    ap request_of (sym c.as_slice.ensures) ∙ sym c.parse_request.ensures.request ∙ c.in-Some.is in
+    let follows : text_length c.in-Some.request ≡ Some c.in-Some-text_len.len =
+    sym c.text_len.ensures ∙ c.in-Some-text_len.is in
+    text_unasked c.args.buf.now.pending c.read_line.new.pending c.read_line.new.line
+    c.args.input.now c.read_line.new.input c.read_text.new.input c.in-Some.request c.in-Some-text_len.len
+    c.in-Whole.ensures.unasked is follows c.read_text.ensures.unasked
+
+pub returns-in-Large-clause-unasked : goal.returns-in-Large-clause-unasked
+returns-in-Large-clause-unasked g c =
     let is : request_of c.read_line.new.line ≡ Some c.in-Some.request =
     ap request_of (sym c.as_slice.ensures) ∙ sym c.parse_request.ensures.request ∙ c.in-Some.is in
     let follows : text_length c.in-Some.request ≡ Some c.in-Some-text_len.len =

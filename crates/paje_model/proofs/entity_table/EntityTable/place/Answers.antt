@@ -1,6 +1,6 @@
 use Rattle.std.proofs.Common.{◌∙◌, ap, position}
 use Rattle.std.specs.Option.{option_or}
-use Rattle.paje_model.specs.Found.{has_name}
+use Rattle.paje_lines.specs.Found.{has_name}
 use Rattle.paje_model.specs.EntityTable.{entities_in}
 use Rattle.paje_model.proofs.DeclaredEntities.{alias-place}
 use Rattle.paje_model.proofs.entity_table.EntityTable.place.Goals as goal

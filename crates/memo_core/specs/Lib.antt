@@ -1,0 +1,7 @@
+pub mod Cached
+pub mod Entry
+pub mod Examples
+pub mod Laws
+pub mod Memo
+pub mod Runs
+pub mod Using

@@ -1,0 +1,8 @@
+use crate::memo_kind::MemoKind;
+
+/// What an entry is found by.
+#[derive(Clone, Copy, PartialEq, Eq, Hash)]
+pub(crate) struct MemoKey {
+    pub(crate) number: u64,
+    pub(crate) kind: MemoKind,
+}

@@ -1,0 +1,10 @@
+pub mod EventLine
+pub mod Found
+pub mod Types
+pub mod Containers
+pub mod Values
+pub mod States
+pub mod Reasons
+pub mod Effects
+pub mod Text
+pub mod Examples

@@ -1,0 +1,5 @@
+pub mod FirstLine
+pub mod InTime
+pub mod LegalText
+pub mod LinesRead
+pub mod TextRead

@@ -1,0 +1,6 @@
+pub mod Words
+pub mod TextLines
+pub mod LineReasons
+pub mod TextSaid
+pub mod LineFaults
+pub mod Reader

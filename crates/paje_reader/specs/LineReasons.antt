@@ -1,0 +1,125 @@
+-- What a line of a trace text tells behind the lines before it, and why it is refused.
+use Rattle.std.specs.Prelude.{ℕ, ◌+◌, List, [], ◌∷◌, filter_map, length, Option, Some, None, Result, Ok, Err}
+use Rattle.std.specs.Prelude.{is_some}
+use Rattle.std.specs.Option.{option_and_then, option_map, option_or}
+use Rattle.paje_lex.specs.declared.date_fault.DateFault.{DateFault}
+use Rattle.paje_lex.specs.declared.date_fault.DateFault.TheVariants as dates
+use Rattle.paje_defs.specs.declared.def_fault.DefFault.{DefFault}
+use Rattle.paje_defs.specs.declared.def_fault.DefFault.TheVariants as definitions
+use Rattle.paje_defs.specs.declared.event_fault.EventFault.{EventFault}
+use Rattle.paje_defs.specs.declared.event_fault.EventFault.TheVariants as events
+use Rattle.paje_defs.specs.Events.{Event, message_size, role_text, size_in, told_event}
+use Rattle.paje_defs.specs.Lines.{Line, begun_in, complete_in, definition_reason}
+use Rattle.paje_defs.specs.Refusals.{Placed, first_of, first_refused, placed, when}
+use Rattle.paje_lines.specs.declared.model_fault.ModelFault.{ModelFault}
+use Rattle.paje_lines.specs.declared.model_fault.ModelFault.TheVariants as entities
+use Rattle.paje_lines.specs.EventLine.{EventLine}
+use Rattle.paje_lines.specs.Reasons.{event_reason}
+use Rattle.paje_reader.specs.declared.read_fault.ReadRefusal.{ReadRefusal}
+use Rattle.paje_reader.specs.declared.why.Why.{Why}
+use Rattle.paje_reader.specs.declared.why.Why.TheVariants as why
+use Rattle.paje_reader.specs.TextLines.{Reading, TextLine, defines, reading, refused, skipped, tells}
+
+-- ---- the reasons by their names; none is want of memory
+
+abbrev pub why_of_definition : DefFault → Option Why
+why_of_definition definitions.Shape = Some why.Shape
+why_of_definition definitions.Nested = Some why.Nested
+why_of_definition definitions.UnknownName = Some why.UnknownName
+why_of_definition (definitions.DoubleNumber line) = Some (why.DoubleNumber line)
+why_of_definition definitions.UnknownType = Some why.UnknownType
+why_of_definition (definitions.MissingField role) = Some (why.MissingField role)
+why_of_definition definitions.Memory = None
+
+abbrev pub why_of_date : DateFault → Why
+why_of_date dates.Shape = why.DateShape
+why_of_date dates.Negative = why.DateNegative
+why_of_date dates.Big = why.DateBig
+
+abbrev pub why_of_event : EventFault → Why
+why_of_event events.NoNumber = why.NoNumber
+why_of_event events.UnknownNumber = why.UnknownNumber
+why_of_event events.TooFew = why.TooFew
+why_of_event (events.Date fault) = why_of_date fault
+
+abbrev pub why_of_entity : ModelFault → Option Why
+why_of_entity (entities.UnknownEntity role) = Some (why.UnknownEntity role)
+why_of_entity (entities.WrongKind role) = Some (why.WrongKind role)
+why_of_entity (entities.DoubleAlias line) = Some (why.DoubleAlias line)
+why_of_entity (entities.AfterDestroy line) = Some (why.AfterDestroy line)
+why_of_entity (entities.TimeBack time) = Some (why.TimeBack time)
+why_of_entity entities.EmptyPop = Some why.EmptyPop
+why_of_entity entities.Deep = Some why.Deep
+why_of_entity (entities.TooMany what) = Some (why.TooMany what)
+why_of_entity entities.Memory = None
+
+-- ---- the definition lines
+
+abbrev pub definition_line : ℕ → Reading → Option Line
+definition_line number (defines words) = Some (record { number = number; words = words })
+definition_line number (tells words) = None
+definition_line number (refused why) = None
+definition_line number skipped = None
+
+abbrev pub definition_lines : List TextLine → List Line
+definition_lines lines = filter_map (λ line. definition_line line.number (reading line)) lines
+
+-- ---- the event lines
+
+-- what an event line of these words tells
+abbrev pub event_line : ℕ → List (List ℕ) → Event → EventLine
+event_line number words event = record {
+  number = number;
+  event = event.definition.event;
+  time = event.time;
+  size = message_size event.definition.event (size_in event.definition words);
+  text = role_text event.definition words;
+}
+
+-- where it tells an event
+abbrev pub event_line_of : ℕ → List (List ℕ) → Result Event EventFault → Option EventLine
+event_line_of number words (Ok event) = Some (event_line number words event)
+event_line_of number words (Err fault) = None
+
+-- under the definitions of the lines before it
+abbrev pub told_behind : List TextLine → List (List ℕ) → Result Event EventFault
+told_behind before words = told_event (complete_in (definition_lines before)) words
+
+abbrev pub event_line_behind : List TextLine → ℕ → Reading → Option EventLine
+event_line_behind before number (tells words) = event_line_of number words (told_behind before words)
+event_line_behind before number (defines words) = None
+event_line_behind before number (refused why) = None
+event_line_behind before number skipped = None
+
+abbrev pub event_line_at : Placed TextLine → Option EventLine
+event_line_at p = event_line_behind p.before p.line.number (reading p.line)
+
+abbrev pub event_lines : List TextLine → List EventLine
+event_lines lines = filter_map event_line_at (placed lines)
+
+-- ---- why a line is refused
+
+abbrev pub definition_why : List TextLine → List (List ℕ) → Option Why
+definition_why before words = option_and_then why_of_definition (definition_reason
+    (complete_in (definition_lines before)) (begun_in (definition_lines before)) words)
+
+abbrev pub told_why : List TextLine → ℕ → List (List ℕ) → Result Event EventFault → Option Why
+told_why before number words (Err fault) = Some (why_of_event fault)
+told_why before number words (Ok event) = option_and_then why_of_entity
+    (event_reason (event_lines before) (event_line number words event))
+
+-- No event line stands inside a definition.
+abbrev pub event_why : List TextLine → ℕ → List (List ℕ) → Option Why
+event_why before number words = first_of (
+    when (is_some (begun_in (definition_lines before))) why.Unended
+    ∷ told_why before number words (told_behind before words) ∷ [])
+
+abbrev pub why_behind : List TextLine → ℕ → Reading → Option Why
+why_behind before number skipped = None
+why_behind before number (refused why) = Some why
+why_behind before number (defines words) = definition_why before words
+why_behind before number (tells words) = event_why before number words
+
+-- by the lines before it
+abbrev pub line_why : Placed TextLine → Option Why
+line_why p = why_behind p.before p.line.number (reading p.line)

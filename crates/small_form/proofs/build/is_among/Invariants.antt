@@ -1,8 +1,0 @@
-use Rattle.std.proofs.Common.{◌≡◌, drop}
-use Rattle.std.specs.List.{list_any}
-use Rattle.std.specs.Str.{bytes_eq}
-use Rattle.small_form.proofs.build.is_among.Given as goal
-
-abbrev pub invariant-loop-other : goal.invariant-loop-other
-invariant-loop-other l = list_any (λ y. bytes_eq y l.text) (drop l.other-index l.texts) ≡ list_any
-    (λ y. bytes_eq y l.text) l.texts

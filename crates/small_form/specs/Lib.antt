@@ -1,6 +1,0 @@
-pub mod Line
-pub mod Examples
-pub mod Rules
-pub mod SmallForm
-pub mod Tallies
-pub mod View
