@@ -108,6 +108,10 @@ impl EntityTable {
         requires { IsNamed self.now }
         ensures { result.now ≡ text_among (entities_in self.now) text.now }
     {
+        // Most traces declare no values; then the text isn't hashed.
+        if self.by_alias.is_empty() {
+            return text;
+        }
         match self.place(text) {
             Some(place) => match self.name(place) {
                 Some(name) => name,

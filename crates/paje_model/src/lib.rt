@@ -29,3 +29,10 @@ mod type_table;
 mod value_table;
 
 pub use entities::Entities;
+
+#[cfg(test)]
+mod tests;
+#[cfg(test)]
+mod told;
+#[cfg(test)]
+mod written;

@@ -1,7 +1,7 @@
 -- No event line of a text is past the greatest time.
-use Rattle.std.proofs.Common.{◌≡◌, ℕ, ◌≤◌, ◌<◌, All, Bool, true, false, List, [], ◌∷◌, filter_map, length}
+use Rattle.std.proofs.Common.{◌≡◌, ℕ, ◌≤◌, All, Bool, true, false, List, [], ◌∷◌, filter_map, length}
 use Rattle.std.proofs.Common.{nat_lt}
-use Rattle.std.proofs.Common.{slice_get, Option, Some, None, IfSome, Result, Ok, Err, cond, refl, sym, ◌∙◌}
+use Rattle.std.proofs.Common.{slice_get, Option, Some, None, IfSome, Result, Ok, Err, cond, refl}
 use Rattle.std.proofs.Common.{ap, subst}
 use Rattle.std.proofs.Common.{arith}
 use Rattle.std.specs.List.{cons_option}
@@ -15,11 +15,10 @@ use Rattle.paje_defs.specs.declared.event_fault.EventFault.{EventFault}
 use Rattle.paje_defs.specs.declared.event_fault.EventFault.TheVariants as faults
 use Rattle.paje_defs.specs.declared.role.Role.TheVariants as roles
 use Rattle.paje_defs.specs.Events.{Event, event_numbered, event_under, role_text, time_of_text, timed}
-use Rattle.paje_defs.specs.Events.{told_event}
 use Rattle.paje_defs.specs.Lines.{complete_in, definition_of}
 use Rattle.paje_defs.specs.Numbers.{event_number_of}
-use Rattle.paje_defs.specs.Refusals.{Placed, placed}
-use Rattle.paje_lines.specs.EventLine.{AreInTime, EventLine}
+use Rattle.paje_defs.specs.Refusals.{placed}
+use Rattle.paje_lines.specs.EventLine.{AreInTime}
 use Rattle.paje_reader.specs.LineReasons.{definition_lines, event_line_at, event_line_behind, event_line_of}
 use Rattle.paje_reader.specs.LineReasons.{event_lines}
 use Rattle.paje_reader.specs.LineReasons.{told_behind}

@@ -1,9 +1,8 @@
 -- What a reader has read, behind one more line.
-use Rattle.std.proofs.Common.{◌≡◌, ℕ, ◌⊎◌, inl, inr, List, [], ◌∷◌, ◌++◌, filter_map, Option, Some, None}
+use Rattle.std.proofs.Common.{◌≡◌, ℕ, ◌⊎◌, inl, inr, List, [], ◌∷◌, ◌++◌, Option, Some, None}
 use Rattle.std.proofs.Common.{Result}
-use Rattle.std.proofs.Common.{length, nat_lt, Ok, Err, is_some, is_none, cond, Bool, true, false, refl, sym}
+use Rattle.std.proofs.Common.{length, nat_lt, Ok, Err, is_some, cond, true, false, refl, sym}
 use Rattle.std.proofs.Common.{◌∙◌, ap, subst}
-use Rattle.std.specs.List.{cons_option}
 use Rattle.std.specs.Option.{option_and_then, option_map_or, option_to_list}
 use Rattle.std.specs.Result.{IsErrAnd}
 use Rattle.std.specs.Str.Lines.{strip_carriage_return}
@@ -15,17 +14,16 @@ use Rattle.std.proofs.lemmas.List.Elements.{filter_map-append}
 use Rattle.paje_defs.specs.declared.def_fault.DefFault.{DefFault}
 use Rattle.paje_defs.specs.declared.event_fault.EventFault.{EventFault}
 use Rattle.paje_defs.specs.declared.fields.Fields.{Fields}
-use Rattle.paje_defs.specs.declared.role.Role.{Role}
 use Rattle.paje_defs.specs.Events.{AreFields, Event, Tells, told_event}
-use Rattle.paje_defs.specs.Lines.{Definitions, begun_in, complete_in, definition_reason, definition_reason_at}
+use Rattle.paje_defs.specs.Lines.{Definitions, begun_in, complete_in, definition_reason_at}
 use Rattle.paje_defs.specs.Lines.{definitions_of_lines}
-use Rattle.paje_defs.specs.Refusals.{Placed, first_of, refusal, taken, when}
+use Rattle.paje_defs.specs.Refusals.{Placed, first_of, refusal, when}
 use Rattle.paje_defs.specs.Table.{TakesNext, definitions_of, numbered_line}
 use Rattle.paje_defs.proofs.PlacedMore.{one_or_none, told-more}
 use Rattle.paje_defs.proofs.RefusedMore.{none_refused, refusal-next}
 use Rattle.paje_lines.specs.declared.effect.Effect.{Effect}
 use Rattle.paje_lines.specs.declared.model_fault.ModelFault.{ModelFault}
-use Rattle.paje_lines.specs.EventLine.{EventLine, line_of}
+use Rattle.paje_lines.specs.EventLine.{line_of}
 use Rattle.paje_lines.specs.Reasons.{event_reason}
 use Rattle.paje_model.specs.declared.entities.Entities.{Entities}
 use Rattle.paje_model.specs.StandsFor.{Applies, StandsFor}
@@ -37,7 +35,7 @@ use Rattle.paje_reader.specs.declared.why.Why.TheVariants as why
 use Rattle.paje_reader.specs.LineFaults.{fault_of}
 use Rattle.paje_reader.specs.LineReasons.{definition_line, definition_lines, definition_why, event_line}
 use Rattle.paje_reader.specs.LineReasons.{event_line_at, event_line_behind, event_line_of, event_lines}
-use Rattle.paje_reader.specs.LineReasons.{event_why, line_why}
+use Rattle.paje_reader.specs.LineReasons.{line_why}
 use Rattle.paje_reader.specs.LineReasons.{told_behind, told_why, why_behind, why_of_definition, why_of_entity}
 use Rattle.paje_reader.specs.LineReasons.{why_of_event}
 use Rattle.paje_reader.specs.Reader.{HasRead, TakesLine}

@@ -1,26 +1,25 @@
 -- A text whose lines are read one after another.
-use Rattle.std.proofs.Common.{◌≡◌, ℕ, ◌+◌, ◌≤◌, ◌<◌, ◌⊎◌, inl, inr, List, [], ◌∷◌, ◌++◌, length, map, Option}
+use Rattle.std.proofs.Common.{◌≡◌, ℕ, ◌+◌, ◌≤◌, ◌<◌, ◌⊎◌, inl, inr, List, [], ◌∷◌, ◌++◌, length, map}
 use Rattle.std.proofs.Common.{Some, None, is_some, cond, Bool, true, false, refl, sym, ◌∙◌, ap, subst, arith}
 use Rattle.std.proofs.Common.{Err}
-use Rattle.std.proofs.Common.{Ok}
 use Rattle.std.specs.List.{enumerate_from, find}
 use Rattle.std.specs.Option.{option_and_then, option_map, option_or}
 use Rattle.std.proofs.lemmas.List.{append-nil, append_assoc, length-append}
 use Rattle.std.proofs.lemmas.List.Folds.{find-append}
-use Rattle.paje_defs.specs.Refusals.{Placed, first_refused, placed, placed_behind, refusal, when}
+use Rattle.paje_defs.specs.Refusals.{first_refused, placed, placed_behind, when}
 use Rattle.paje_defs.specs.Table.{definitions_of}
-use Rattle.paje_defs.proofs.RefusedMore.{first-next, none_refused}
+use Rattle.paje_defs.proofs.RefusedMore.{none_refused}
 use Rattle.paje_reader.specs.declared.line_fault.LineFault.{LineFault}
 use Rattle.paje_reader.specs.declared.read_fault.ReadFault.TheVariants as faults
 use Rattle.paje_reader.specs.declared.read_fault.ReadRefusal.{ReadRefusal}
 use Rattle.paje_reader.specs.declared.reader.Reader.{Reader}
 use Rattle.paje_reader.specs.declared.why.Why.{Why}
 use Rattle.paje_reader.specs.declared.why.Why.TheVariants as why
-use Rattle.paje_reader.specs.LineReasons.{definition_lines, line_why}
+use Rattle.paje_reader.specs.LineReasons.{line_why}
 use Rattle.paje_reader.specs.LineFaults.{fault_at}
 use Rattle.paje_reader.specs.Reader.{HasRead, TakesLine}
 use Rattle.paje_reader.specs.TextLines.{TextLine, bytes_of_lines, lines_in, text_line}
-use Rattle.paje_reader.specs.TextSaid.{end_refusal, lines_refusal, refusal_at, text_refusal}
+use Rattle.paje_reader.specs.TextSaid.{end_refusal, refusal_at, text_refusal}
 use Rattle.paje_reader.proofs.LinesRead.{behind, facts}
 
 -- the lines of a rest of the text, behind so many

@@ -4,3 +4,4 @@ pub mod LineReasons
 pub mod TextSaid
 pub mod LineFaults
 pub mod Reader
+pub mod Examples

@@ -1,7 +1,7 @@
 -- What a line of a trace text tells behind the lines before it, and why it is refused.
-use Rattle.std.specs.Prelude.{ℕ, ◌+◌, List, [], ◌∷◌, filter_map, length, Option, Some, None, Result, Ok, Err}
+use Rattle.std.specs.Prelude.{ℕ, List, [], ◌∷◌, filter_map, Option, Some, None, Result, Ok, Err}
 use Rattle.std.specs.Prelude.{is_some}
-use Rattle.std.specs.Option.{option_and_then, option_map, option_or}
+use Rattle.std.specs.Option.{option_and_then}
 use Rattle.paje_lex.specs.declared.date_fault.DateFault.{DateFault}
 use Rattle.paje_lex.specs.declared.date_fault.DateFault.TheVariants as dates
 use Rattle.paje_defs.specs.declared.def_fault.DefFault.{DefFault}
@@ -10,12 +10,11 @@ use Rattle.paje_defs.specs.declared.event_fault.EventFault.{EventFault}
 use Rattle.paje_defs.specs.declared.event_fault.EventFault.TheVariants as events
 use Rattle.paje_defs.specs.Events.{Event, message_size, role_text, size_in, told_event}
 use Rattle.paje_defs.specs.Lines.{Line, begun_in, complete_in, definition_reason}
-use Rattle.paje_defs.specs.Refusals.{Placed, first_of, first_refused, placed, when}
+use Rattle.paje_defs.specs.Refusals.{Placed, first_of, placed, when}
 use Rattle.paje_lines.specs.declared.model_fault.ModelFault.{ModelFault}
 use Rattle.paje_lines.specs.declared.model_fault.ModelFault.TheVariants as entities
 use Rattle.paje_lines.specs.EventLine.{EventLine}
 use Rattle.paje_lines.specs.Reasons.{event_reason}
-use Rattle.paje_reader.specs.declared.read_fault.ReadRefusal.{ReadRefusal}
 use Rattle.paje_reader.specs.declared.why.Why.{Why}
 use Rattle.paje_reader.specs.declared.why.Why.TheVariants as why
 use Rattle.paje_reader.specs.TextLines.{Reading, TextLine, defines, reading, refused, skipped, tells}

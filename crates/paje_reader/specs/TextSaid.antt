@@ -1,5 +1,6 @@
 -- What a trace text says, or why it is refused.
-use Rattle.std.specs.Prelude.{◌≡◌, ℕ, ◌+◌, ◌⊎◌, List, length, Option, None, Some, Result, MatchResult, is_some}
+use Rattle.std.specs.Prelude.{◌≡◌, ℕ, ◌+◌, ◌⊎◌, List, length, Option}
+use Rattle.std.specs.Prelude.{None, Some, Result, MatchResult, is_some}
 use Rattle.std.specs.Option.{option_and_then, option_map, option_or}
 use Rattle.trace_base.specs.declared.text.TraceText.{TraceText}
 use Rattle.paje_defs.specs.Lines.{begun_in}

@@ -1,4 +1,4 @@
-use Rattle.std.proofs.Common.{◌≡◌, sym, subst, MatchOption, Some, None}
+use Rattle.std.proofs.Common.{subst, Some}
 use Rattle.memchr.specs.Find.{IsFirstByte, is_byte}
 use Rattle.paje_reader.proofs.FirstLine.{cut_at, cut_none}
 use Rattle.paje_reader.proofs.cutting.first_line.Goals as goal

@@ -1,4 +1,4 @@
-use Rattle.std.proofs.Common.{◌≡◌, ◌+◌, length}
+use Rattle.std.proofs.Common.{length}
 use Rattle.paje_reader.proofs.TextRead.{IsReading}
 use Rattle.paje_reader.proofs.read.read_lines.Given as goal
 

@@ -1,4 +1,3 @@
-use Rattle.std.proofs.Common.{◌≡◌}
 use Rattle.paje_reader.proofs.LegalText.{fits_said, legal_said}
 use Rattle.paje_reader.specs.LineReasons.{event_lines}
 use Rattle.paje_reader.specs.TextLines.{lines_in}

@@ -1,4 +1,4 @@
-use Rattle.std.proofs.Common.{◌≡◌, refl, sym, ◌∙◌, ap}
+use Rattle.std.proofs.Common.{refl, sym, ◌∙◌, ap}
 use Rattle.paje_defs.specs.Words.{words_at_tokens}
 use Rattle.paje_reader.specs.LineReasons.{definition_lines, why_of_definition}
 use Rattle.paje_reader.specs.TextLines.{defines}

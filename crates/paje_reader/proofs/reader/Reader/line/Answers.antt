@@ -1,4 +1,4 @@
-use Rattle.std.proofs.Common.{◌≡◌, length, sym, ◌∙◌}
+use Rattle.std.proofs.Common.{length, sym, ◌∙◌}
 use Rattle.std.proofs.lemmas.Bool.{le-ltb}
 use Rattle.trace_base.specs.declared.limits.TheConstants.{MAX_TRACE_LINE}
 use Rattle.paje_reader.proofs.LinesRead.{reads_skipped, skips}

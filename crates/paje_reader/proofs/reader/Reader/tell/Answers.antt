@@ -1,4 +1,4 @@
-use Rattle.std.proofs.Common.{◌≡◌, inr, refl, sym, ◌∙◌, ap, Some}
+use Rattle.std.proofs.Common.{inr, refl, sym, ◌∙◌, ap, Some}
 use Rattle.paje_defs.specs.Words.{words_at_tokens}
 use Rattle.paje_reader.specs.declared.why.Why.TheVariants.{Unended}
 use Rattle.paje_reader.specs.LineReasons.{event_lines, why_of_entity, why_of_event}

@@ -1,0 +1,150 @@
+-- Small traces: one that has a canonical text, and others that differ from it in one thing. Times are
+-- nanoseconds.
+use Rattle.std.specs.Prelude.{ℕ, List, [], ◌∷◌, codes, replicate, false, true}
+use Rattle.trace_base.specs.LegalExamples.{lasting, one_call, track_of_kind}
+use Rattle.trace_base.specs.declared.messages.LinkEvent.{LinkEvent}
+use Rattle.trace_base.specs.declared.names.Container.{Container}
+use Rattle.trace_base.specs.declared.names.Track.{Track}
+use Rattle.trace_base.specs.declared.names.TraceNames.{TraceNames}
+use Rattle.trace_base.specs.declared.stream.Event.TheVariants.{Enter, Leave}
+use Rattle.trace_base.specs.declared.stream.TrackStream.{TrackStream}
+use Rattle.trace_base.specs.declared.text.TraceText.{TraceText}
+use Rattle.paje_print.specs.Canonical.{root_until}
+
+-- both ends of a message, by their containers and sizes
+abbrev pub sent : ℕ → ℕ → LinkEvent
+sent container size = record {
+  starts = true;
+  kind = 0;
+  key = codes "k";
+  container = container;
+  time = 3;
+  size = size;
+}
+
+abbrev pub received : ℕ → ℕ → LinkEvent
+received container size = record {
+  starts = false;
+  kind = 0;
+  key = codes "k";
+  container = container;
+  time = 7;
+  size = size;
+}
+
+-- the root and a process with one track and one function
+abbrev pub small_names : TraceNames
+small_names = record {
+  end = 10;
+  containers = root_until 10 ∷ lasting 2 10 ∷ [];
+  kinds = codes "State" ∷ [];
+  link_kinds = codes "Link" ∷ [];
+  tracks = track_of_kind 1 0 ∷ [];
+  functions = codes "main" ∷ [];
+}
+
+-- the process calls its function once, and sends the root a message
+abbrev pub small_trace : TraceText
+small_trace = record {
+  names = small_names;
+  tracks = one_call 1 3 7 ∷ [];
+  links = sent 1 100 ∷ received 0 0 ∷ [];
+}
+
+-- without a root, and without all that a root would have
+abbrev pub nothing_traced : TraceText
+nothing_traced = record {
+  names = record { end = 0; containers = []; kinds = []; link_kinds = []; tracks = []; functions = [] };
+  tracks = [];
+  links = [];
+}
+
+-- ---- with other names
+
+abbrev pub small_named : TraceNames → TraceText
+small_named names = record small_trace { names = names }
+
+-- with this text in place of the state type's, the link type's, or the function's
+abbrev pub of_state_type : List ℕ → TraceText
+of_state_type text = small_named (record small_names { kinds = text ∷ [] })
+
+abbrev pub of_link_type : List ℕ → TraceText
+of_link_type text = small_named (record small_names { link_kinds = text ∷ [] })
+
+abbrev pub calling : List ℕ → TraceText
+calling text = small_named (record small_names { functions = text ∷ [] })
+
+-- a text of so many bytes
+unfoldable pub long_text : ℕ → List ℕ
+long_text n = replicate n 97
+
+-- with this root, or with one container more
+abbrev pub rooted_in : Container → TraceText
+rooted_in root = small_named (record small_names { containers = root ∷ lasting 2 10 ∷ [] })
+
+abbrev pub beside_container : Container → TraceText
+beside_container c =
+    small_named (record small_names { containers = root_until 10 ∷ lasting 2 10 ∷ c ∷ [] })
+
+-- with so many containers more
+abbrev pub beside_containers : ℕ → TraceText
+beside_containers n = small_named (record small_names {
+  containers = root_until 10 ∷ lasting 2 10 ∷ replicate n (lasting 0 10);
+})
+
+-- with these state types
+abbrev pub of_state_types : List (List ℕ) → TraceText
+of_state_types kinds = small_named (record small_names { kinds = kinds })
+
+-- with this end, which is the root's too; and with a container up to this end beside
+abbrev pub ending_at : ℕ → TraceText
+ending_at end = small_named (record small_names {
+  end = end;
+  containers = root_until end ∷ lasting 2 10 ∷ [];
+})
+
+abbrev pub beside_lasting : ℕ → TraceText
+beside_lasting end = small_named (record small_names {
+  end = end;
+  containers = root_until end ∷ lasting 2 10 ∷ lasting 5 end ∷ [];
+})
+
+-- ---- with other streams
+
+-- with one state type and one track more, and with these streams behind the first
+abbrev pub beside_track : Track → List TrackStream → TraceText
+beside_track track streams = record {
+  names = record small_names {
+    kinds = codes "State" ∷ codes "Wait" ∷ [];
+    tracks = track_of_kind 1 0 ∷ track ∷ [];
+  };
+  tracks = one_call 1 3 7 ∷ streams;
+  links = [];
+}
+
+-- a track of the process on which nothing happens
+abbrev pub quiet_process : TrackStream
+quiet_process = record { start = 2; end = 10; events = [] }
+
+abbrev pub running : TrackStream → TraceText
+running stream = record small_trace { tracks = stream ∷ [] }
+
+-- with these functions, of which the process calls two, one behind the other
+abbrev pub two_in_a_row : ℕ → ℕ → TrackStream
+two_in_a_row f g = record {
+  start = 2;
+  end = 10;
+  events = Enter f 3 ∷ Leave 4 ∷ Enter g 5 ∷ Leave 6 ∷ [];
+}
+
+abbrev pub calling_two : List (List ℕ) → ℕ → ℕ → TraceText
+calling_two functions f g = record {
+  names = record small_names { functions = functions };
+  tracks = two_in_a_row f g ∷ [];
+  links = [];
+}
+
+-- ---- with other link events
+
+abbrev pub linking : LinkEvent → TraceText
+linking l = record small_trace { links = l ∷ [] }
