@@ -16,6 +16,7 @@ ASK = os.path.join(TOP, "examples", "ask")
 TRACE = os.path.join(TOP, "examples", "first.trace")
 USAGE = b"usage: cccgd batch, cccgd serve <addr> <workers> <each>, cccgd gen <seed> <size>\n"
 NO_TEXT = b"\xff"
+NONE_LEFT = b"LEFT 0 0\n"
 # How long a reply may take that nothing else is waited for, in seconds.
 LIMIT = 20
 
@@ -28,7 +29,7 @@ HEAD = FIRST_TEXT[:593]
 RANK = '2 0 p0 P 0 "rank 0"\n'
 CALL = RANK + "4 0 S p0 main\n5 0.5 S p0\n3 0.5 P p0\n"
 FIRST_REPLIES = (b"OK PUT 1 1 2 0 @3\nOK FLAT 2 1 0 @4\n1 1 500000000 300000000 main\n"
-                 b"2 2 200000000 200000000 f\nOK QUIT\n")
+                 b"2 2 200000000 200000000 f\nOK QUIT\nLEFT 1 3\n")
 
 
 def put_text(text):
@@ -187,70 +188,72 @@ REFUSED_TEXTS = {
     "two letters": (b"ab", b"1 NoNumber"),
 }
 
-# Lines behind the head of a text, of which none is refused, with the numbers of tracks and functions.
+# Lines behind the head of a text, of which none is refused, with the numbers of tracks and functions, and of the
+# different subtrees that are left.
 TAKEN_LINES = {
-    "a second space": (CALL.replace("4 0 S", "4  0 S"), b"1 1"),
-    "a time of 11 digits": (CALL.replace("4 0 S", "4 00000000000 S"), b"1 1"),
-    "the greatest time": (CALL.replace("0.5", "4611686018.427387904"), b"1 1"),
-    "a container never destroyed": (CALL.replace("3 0.5 P p0\n", ""), b"1 1"),
-    "destroyed with an open call": (CALL.replace("5 0.5 S p0\n", ""), b"1 1"),
-    "a name of 33 letters": (CALL.replace("main", "m" * 33), b"1 1"),
-    "a name of two words": (CALL.replace("main", '"my func"'), b"1 1"),
-    "a last line without its newline": (CALL[:-1], b"1 1"),
-    "256 open calls": (calls(256), b"1 1"),
+    "a second space": (CALL.replace("4 0 S", "4  0 S"), b"1 1", 2),
+    "a time of 11 digits": (CALL.replace("4 0 S", "4 00000000000 S"), b"1 1", 2),
+    "the greatest time": (CALL.replace("0.5", "4611686018.427387904"), b"1 1", 2),
+    "a container never destroyed": (CALL.replace("3 0.5 P p0\n", ""), b"1 1", 2),
+    "destroyed with an open call": (CALL.replace("5 0.5 S p0\n", ""), b"1 1", 2),
+    "a name of 33 letters": (CALL.replace("main", "m" * 33), b"1 1", 2),
+    "a name of two words": (CALL.replace("main", '"my func"'), b"1 1", 2),
+    "a last line without its newline": (CALL[:-1], b"1 1", 2),
+    "256 open calls": (calls(256), b"1 1", 257),
 }
 
-# Sessions, each with its replies and its status. QUIT and its reply are added where the status is 0.
+# Sessions, each with its replies, and the numbers of traces and of different subtrees that are left. QUIT and its
+# reply are added.
 SESSIONS = {
-    "a line that is no request": (b"LIST\n", b"NO 10\n"),
-    "a trace that isn't open": (b"FLAT 7 * 0 1\n", b"NO 30 7 @1\n"),
-    "a leading zero, a space too many, an empty line": (b"FLAT 01 * 0 5\nLIST \n\n", b"NO 10\n" * 3),
-    "a line of 4,097 bytes": (b"x" * 4097 + b"\nFLAT 7 * 0 1\n", b"NO 10\nNO 30 7 @1\n"),
-    "a line of 1,000,000 bytes": (b"x" * 1000000 + b"\nFLAT 7 * 0 1\n", b"NO 10\nNO 30 7 @1\n"),
-    "no text": (b"PUT 0\n", b"OK PUT 1 0 0 0 @2\n"),
-    "a length of 2^64": (b"PUT 18446744073709551616\nFLAT 7 * 0 1\n", b"NO 10\nNO 30 7 @1\n"),
+    "a line that is no request": (b"LIST\n", b"NO 10\n", b"0 0"),
+    "a trace that isn't open": (b"FLAT 7 * 0 1\n", b"NO 30 7 @1\n", b"0 0"),
+    "a leading zero, a space too many, an empty line": (b"FLAT 01 * 0 5\nLIST \n\n", b"NO 10\n" * 3, b"0 0"),
+    "a line of 4,097 bytes": (b"x" * 4097 + b"\nFLAT 7 * 0 1\n", b"NO 10\nNO 30 7 @1\n", b"0 0"),
+    "a line of 1,000,000 bytes": (b"x" * 1000000 + b"\nFLAT 7 * 0 1\n", b"NO 10\nNO 30 7 @1\n", b"0 0"),
+    "no text": (b"PUT 0\n", b"OK PUT 1 0 0 0 @2\n", b"1 0"),
+    "a length of 2^64": (b"PUT 18446744073709551616\nFLAT 7 * 0 1\n", b"NO 10\nNO 30 7 @1\n", b"0 0"),
     "a text that is too large, of newlines": (b"PUT 67108865\n" + b"\n" * 67108865 + b"FLAT 7 * 0 1\n",
-                                              b"NO 21\nNO 30 7 @1\n"),
-    "a text at the greatest length": (put_text((b"#" * 65535 + b"\n") * 1024), b"OK PUT 1 0 0 0 @2\n"),
-    "a line of 65,536 bytes": (put_text(b"#" * 65536 + b"\n"), b"OK PUT 1 0 0 0 @2\n"),
+                                              b"NO 21\nNO 30 7 @1\n", b"0 0"),
+    "a text at the greatest length": (put_text((b"#" * 65535 + b"\n") * 1024), b"OK PUT 1 0 0 0 @2\n", b"1 0"),
+    "a line of 65,536 bytes": (put_text(b"#" * 65536 + b"\n"), b"OK PUT 1 0 0 0 @2\n", b"1 0"),
     "256 calls that stay open": (put(RANK + "4 0 S p0 f\n" * 256) + b"FLAT 1 * 0 1\n",
-                                 b"OK PUT 1 1 1 0 @3\nOK FLAT 1 1 0 @4\n1 256 0 0 f\n"),
+                                 b"OK PUT 1 1 1 0 @3\nOK FLAT 1 1 0 @4\n1 256 0 0 f\n", b"1 257"),
     "nine calls": (put(calls_of_f(["%d0" % i for i in range(1, 10)], ["%d5" % i for i in range(1, 10)]))
                    + b"FLAT 1 * 0 1000000000\n",
                    b"OK PUT 1 1 2 0 @3\nOK FLAT 2 1 0 @4\n1 1 1000000000 550000000 main\n"
-                   b"2 9 450000000 450000000 f\n"),
+                   b"2 9 450000000 450000000 f\n", b"1 4"),
     "65 calls": (put(calls_of_f(range(10, 75), ["%d5" % i for i in range(10, 75)]))
                  + b"FLAT 1 * 0 1000000000\n",
                  b"OK PUT 1 1 2 0 @3\nOK FLAT 2 1 0 @4\n1 1 1000000000 675000000 main\n"
-                 b"2 65 325000000 325000000 f\n"),
+                 b"2 65 325000000 325000000 f\n", b"1 5"),
     "f in f, with exponents": (put(RANK + "4 0 S p0 f\n4 2e-9 S p0 f\n5 4e-9 S p0\n5 1e-8 S p0\n"
                                    "3 1e-8 P p0\n")
                                + b"FLAT 1 * 0 10\n",
-                               b"OK PUT 1 1 1 0 @3\nOK FLAT 1 1 0 @4\n1 2 10 10 f\n"),
+                               b"OK PUT 1 1 1 0 @3\nOK FLAT 1 1 0 @4\n1 2 10 10 f\n", b"1 3"),
     "calls of no time": (put(RANK + "4 1e-8 S p0 g\n5 1e-8 S p0\n4 2e-8 S p0 g\n5 2e-8 S p0\n3 1e-7 P p0\n")
                          + b"FLAT 1 * 10 20\n",
-                         b"OK PUT 1 1 1 0 @3\nOK FLAT 1 1 10 @4\n1 1 0 0 g\n"),
+                         b"OK PUT 1 1 1 0 @3\nOK FLAT 1 1 10 @4\n1 1 0 0 g\n", b"1 2"),
     # main is open up to the greatest time, at which p2 is created.
     "containers that aren't destroyed": (put("2 0 p0 P 0 a\n2 0 p1 P 0 b\n4 0 S p0 main\n2 2 p2 P 0 c\n")
                                          + b"FLAT 1 * 0 3000000000\n",
                                          b"OK PUT 1 1 1 0 @3\nOK FLAT 1 1 0 @4\n"
-                                         b"1 1 2000000000 2000000000 main\n"),
+                                         b"1 1 2000000000 2000000000 main\n", b"1 2"),
     "messages": (put_text(DEFINITIONS + MESSAGES.encode()) + b"FLAT 1 * 0 1\n",
-                 b"OK PUT 1 0 0 2 @2\nOK FLAT 0 0 0 @3\n"),
+                 b"OK PUT 1 0 0 2 @2\nOK FLAT 0 0 0 @3\n", b"1 0"),
     "other forms of lines": (put(OTHER_FORMS) + b"FLAT 1 * 0 1000000000\n",
                              b"OK PUT 1 1 3 0 @3\nOK FLAT 3 1 500000000 @4\n1 1 200000000 200000000 main\n"
-                             b"2 1 300000000 300000000 f\n3 1 0 0 g\n"),
+                             b"2 1 300000000 300000000 f\n3 1 0 0 g\n", b"1 4"),
     "a PUT behind a refused one": (b"PUT 2\nab" + put(CALL) + put(CALL),
-                                   b"NO 20 1 NoNumber\nOK PUT 1 1 1 0 @3\nOK PUT 2 1 1 0 @6\n"),
+                                   b"NO 20 1 NoNumber\nOK PUT 1 1 1 0 @3\nOK PUT 2 1 1 0 @6\n", b"2 2"),
     "the most traces": (b"PUT 0\n" * 1025 + b"PUT 2\nabFLAT 2 * 0 1\n",
                         b"".join(b"OK PUT %d 0 0 0 @%d\n" % (i, 2 * i) for i in range(1, 1025))
-                        + b"NO 36 1024 @2049\nNO 20 1 NoNumber\nOK FLAT 0 0 0 @2050\n"),
+                        + b"NO 36 1024 @2049\nNO 20 1 NoNumber\nOK FLAT 0 0 0 @2050\n", b"1024 0"),
     # From 1.5 to 7 main is open for 2.5 and 3.5, of which 1 is work's; work for 1, and for 0.5 and 1 in p2.
     "two FLATs over three tracks": (put(THREE_TRACKS)
                                     + b"FLAT 1 * 1500000000 7000000000\nFLAT 1 * 0 1000000000\n",
                                     b"OK PUT 1 3 2 0 @5\nOK FLAT 2 3 9000000000 @6\n"
                                     b"1 0 6000000000 5000000000 main\n2 2 2500000000 2500000000 work\n"
-                                    b"OK FLAT 1 3 2000000000 @7\n1 1 1000000000 1000000000 main\n"),
+                                    b"OK FLAT 1 3 2000000000 @7\n1 1 1000000000 1000000000 main\n", b"1 7"),
 }
 
 
@@ -260,7 +263,7 @@ EXCHANGES = [
     (put(CALL), b"OK PUT 1 1 1 0 @3\n"),
     (b"FLAT 1 * 0 500000000\n", b"OK FLAT 1 1 0 @4\n1 1 500000000 500000000 main\n"),
     (b"FLAT 7 * 0 1\n", b"NO 30 7 @5\n"),
-    (b"QUIT\n", b"OK QUIT\n"),
+    (b"QUIT\n", b"OK QUIT\nLEFT 1 2\n"),
 ]
 
 
@@ -274,21 +277,24 @@ def sessions():
     """The name of each session, its words, its input, what is written, and the status."""
     yield "the first session", ["batch"], FIRST, FIRST_REPLIES, 0
     for name, (lines, told) in REFUSED_LINES.items():
-        yield name, ["batch"], put(lines) + b"QUIT\n", b"NO 20 %s\nOK QUIT\n" % told.encode(), 0
+        yield name, ["batch"], put(lines) + b"QUIT\n", b"NO 20 %s\nOK QUIT\n" % told.encode() + NONE_LEFT, 0
     for name, (text, told) in REFUSED_TEXTS.items():
-        yield name, ["batch"], put_text(text) + b"QUIT\n", b"NO 20 %s\nOK QUIT\n" % told, 0
-    for name, (lines, counts) in TAKEN_LINES.items():
-        yield name, ["batch"], put(lines) + b"QUIT\n", b"OK PUT 1 %s 0 @3\nOK QUIT\n" % counts, 0
-    for name, (text, replies) in SESSIONS.items():
-        yield name, ["batch"], text + b"QUIT\n", replies + b"OK QUIT\n", 0
-        yield name + ", and the end", ["batch"], text, replies, 0
-    yield "no input", ["batch"], b"", b"", 0
-    yield "a line that is cut", ["batch"], b"LIST\nLIS", b"NO 10\n", 6
-    yield "a text that is cut", ["batch"], b"PUT 9\nshort", b"", 6
+        yield name, ["batch"], put_text(text) + b"QUIT\n", b"NO 20 %s\nOK QUIT\n" % told + NONE_LEFT, 0
+    for name, (lines, counts, nodes) in TAKEN_LINES.items():
+        told = b"OK PUT 1 %s 0 @3\nOK QUIT\nLEFT 1 %d\n" % (counts, nodes)
+        yield name, ["batch"], put(lines) + b"QUIT\n", told, 0
+    for name, (text, replies, left) in SESSIONS.items():
+        yield name, ["batch"], text + b"QUIT\n", replies + b"OK QUIT\nLEFT %s\n" % left, 0
+        yield name + ", and the end", ["batch"], text, replies + b"LEFT %s\n" % left, 0
+    yield "no input", ["batch"], b"", NONE_LEFT, 0
+    yield "a line that is cut", ["batch"], b"LIST\nLIS", b"NO 10\n" + NONE_LEFT, 6
+    yield "a text that is cut", ["batch"], b"PUT 9\nshort", NONE_LEFT, 6
+    yield "a text that is cut behind a whole one", ["batch"], put(CALL) + put(CALL)[:-1], \
+        b"OK PUT 1 1 1 0 @3\nLEFT 1 2\n", 6
     for end in range(497, 697):
-        yield "the first text cut at %d" % end, ["batch"], b"PUT 697\n" + FIRST_TEXT[:end], b"", 6
+        yield "the first text cut at %d" % end, ["batch"], b"PUT 697\n" + FIRST_TEXT[:end], NONE_LEFT, 6
     for length in b"67108865", b"18446744073709551615":
-        yield "a large text that is cut", ["batch"], b"PUT " + length + b"\nQUIT\n", b"", 6
+        yield "a large text that is cut", ["batch"], b"PUT " + length + b"\nQUIT\n", NONE_LEFT, 6
     for words in [], ["batch", "x"], ["serve"], [NO_TEXT], ["batch", NO_TEXT]:
         yield "the words " + repr(words), words, b"", USAGE, 2
 

@@ -9,7 +9,7 @@ use Rattle.node_key.specs.Branches.{branches}
 use Rattle.node_key.specs.declared.tree.Branch.{Branch}
 use Rattle.trace_base.specs.declared.stream.Event.{Event}
 use Rattle.trace_base.specs.declared.stream.Event.TheVariants.{Enter, Leave}
-use Rattle.call_tree.specs.Events.{events, events_below}
+use Rattle.node_key.specs.Events.{events, events_below}
 
 -- the events of branches, of which the time before the first begins at `from`
 abbrev pub events_from : ℕ → List Branch → List Event

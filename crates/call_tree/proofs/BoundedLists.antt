@@ -7,7 +7,7 @@ use Rattle.node_key.specs.Items.{FitBetween}
 use Rattle.node_key.specs.declared.item.Item.{Item}
 use Rattle.node_key.specs.declared.limits.TheConstants.{HEIGHT_BOUND, MAX_HEIGHT, MAX_KIDS}
 use Rattle.trace_base.specs.declared.limits.TheConstants.{MAX_TIME}
-use Rattle.call_tree.specs.Bound.{grouped, bound}
+use Rattle.node_key.specs.Bound.{grouped, bound}
 use Rattle.call_tree.proofs.Chunks.{bound-more, length-grouped}
 use Rattle.call_tree.proofs.Fits.{Low, Low-weaker, Low-grouped, FitBetween-grouped, eights}
 

@@ -9,7 +9,7 @@ use Rattle.std.proofs.lemmas.List.FromFn.{length-map-range_with_len}
 use Rattle.std.proofs.lemmas.Bool.{cases_lt, le-leb}
 use Rattle.std.proofs.lemmas.Bool.Decides.{leb_tells}
 use Rattle.std.specs.List.{range_with_len}
-use Rattle.call_tree.specs.Bound.{chunks, group, grouped, bound_within, bound, stop_of}
+use Rattle.node_key.specs.Bound.{chunks, group, grouped, bound_within, bound, stop_of}
 use Rattle.node_key.specs.Items.{end_of}
 use Rattle.node_key.specs.declared.item.Item.{Item}
 

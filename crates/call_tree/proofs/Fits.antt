@@ -11,7 +11,7 @@ use Rattle.node_key.specs.Branches.{kids_of}
 use Rattle.node_key.specs.Items.{end_of, branches_from, FitBetween}
 use Rattle.node_key.specs.declared.item.Item.{Item}
 use Rattle.node_key.proofs.Kids.{FitBetween-le}
-use Rattle.call_tree.specs.Bound.{group, grouped, bound, start_of, stop_of}
+use Rattle.node_key.specs.Bound.{group, grouped, bound, start_of, stop_of}
 use Rattle.call_tree.proofs.Chunks.{grouped-some, grouped-none, length-grouped, by_chunks, bound-few}
 use Rattle.call_tree.proofs.Chunks.{bound-more}
 

@@ -10,7 +10,7 @@ use Rattle.trace_base.specs.declared.stream.Event.{Event}
 use Rattle.trace_base.specs.declared.stream.Event.TheVariants.{Enter, Leave}
 use Rattle.node_key.specs.Items.{node}
 use Rattle.node_key.specs.declared.item.Item.{Item}
-use Rattle.call_tree.specs.Bound.{bound}
+use Rattle.node_key.specs.Bound.{bound}
 
 -- A call of a function from a start on, the calls in it, its end, and the calls behind it; or none.
 pub data Forest : Type 0 where

@@ -10,7 +10,7 @@ use Rattle.node_key.specs.Items.{FitBetween}
 use Rattle.node_key.specs.declared.item.Item.{Item}
 use Rattle.node_key.specs.declared.limits.TheConstants.{HEIGHT_BOUND}
 use Rattle.trace_base.specs.declared.limits.TheConstants.{MAX_TIME}
-use Rattle.call_tree.specs.Bound.{group, grouped}
+use Rattle.node_key.specs.Bound.{group, grouped}
 use Rattle.call_tree.proofs.Chunks.{grouped-some, grouped-none}
 use Rattle.call_tree.proofs.Fits.{last_end, FitBetween-parts, FitBetween-lower, FitBetween-upper}
 use Rattle.node_key.proofs.Kids.{FitBetween-le}

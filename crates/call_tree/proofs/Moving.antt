@@ -16,8 +16,8 @@ use Rattle.node_key.specs.Branches.{kids_of}
 use Rattle.node_key.specs.Items.{end_of, branches_from, node}
 use Rattle.node_key.specs.declared.item.Item.{Item}
 use Rattle.node_key.specs.declared.tree.Branch.{Branch}
-use Rattle.call_tree.specs.Bound.{group, grouped, bound, start_of, stop_of}
-use Rattle.call_tree.specs.Events.{events, events_below, enclosed}
+use Rattle.node_key.specs.Bound.{group, grouped, bound, start_of, stop_of}
+use Rattle.node_key.specs.Events.{events, events_below, enclosed}
 use Rattle.call_tree.specs.Laws.{moved, since}
 use Rattle.call_tree.proofs.Chunks.{grouped-some, grouped-none, length-grouped, by_chunks, bound-few}
 use Rattle.call_tree.proofs.Chunks.{bound-more}

@@ -15,9 +15,9 @@ use Rattle.node_key.specs.Items.{end_of, FitBetween, node}
 use Rattle.node_key.specs.declared.item.Item.{Item}
 use Rattle.node_key.specs.declared.limits.TheConstants.{MAX_HEIGHT, MAX_KIDS}
 use Rattle.node_key.proofs.Kids.{FitBetween-le}
-use Rattle.call_tree.specs.Bound.{bound}
+use Rattle.node_key.specs.Bound.{bound}
 use Rattle.call_tree.specs.Passing.{CanClose, closed_item, MayCome, PassesEvent}
-use Rattle.call_tree.specs.Trees.{tree}
+use Rattle.node_key.specs.Trees.{tree}
 use Rattle.call_tree.specs.declared.pass.Open.{Open}
 use Rattle.call_tree.proofs.Fits.{Low, Low-nil, Low-weaker, Low-bound, height_above-low, eights}
 use Rattle.call_tree.proofs.Fits.{FitBetween-upper, FitBetween-push}

@@ -17,11 +17,11 @@ use Rattle.trace_base.specs.declared.stream.Event.{Event}
 use Rattle.trace_base.specs.declared.stream.Event.TheVariants.{Enter, Leave}
 use Rattle.node_key.specs.Items.{node}
 use Rattle.node_key.specs.declared.item.Item.{Item}
-use Rattle.call_tree.specs.Bound.{bound}
-use Rattle.call_tree.specs.Calls.{Call, is_balanced, events_between, leave_of, enters_at, call_at, lies_in}
-use Rattle.call_tree.specs.Calls.{calls_within}
-use Rattle.call_tree.specs.Calls.{outer_calls, inner_calls}
-use Rattle.call_tree.specs.Trees.{function_entered, time_at, call_item}
+use Rattle.node_key.specs.Bound.{bound}
+use Rattle.node_key.specs.Calls.{Call, is_balanced, events_between, leave_of, enters_at, call_at, lies_in}
+use Rattle.node_key.specs.Calls.{calls_within}
+use Rattle.node_key.specs.Calls.{outer_calls, inner_calls}
+use Rattle.node_key.specs.Trees.{function_entered, time_at, call_item}
 use Rattle.call_tree.proofs.Forest.{Forest, none, call, flat, items_of, enters, leaves, enters-is, leaves-is}
 use Rattle.call_tree.proofs.Forest.{enters-append, leaves-append}
 use Rattle.call_tree.proofs.Forest.{leaves-flat, front_of_flat}

@@ -12,10 +12,10 @@ use Rattle.node_key.specs.Tree.{Tree}
 use Rattle.node_key.specs.Branches.{kids_of}
 use Rattle.node_key.specs.Items.{end_of, branches_from, FitBetween, node}
 use Rattle.node_key.specs.declared.item.Item.{Item}
-use Rattle.call_tree.specs.Bound.{group, grouped, bound}
-use Rattle.call_tree.specs.Trees.{call_item, tree}
-use Rattle.call_tree.specs.Calls.{outermost_calls}
-use Rattle.call_tree.specs.Events.{events, events_below}
+use Rattle.node_key.specs.Bound.{group, grouped, bound}
+use Rattle.node_key.specs.Trees.{call_item, tree}
+use Rattle.node_key.specs.Calls.{outermost_calls}
+use Rattle.node_key.specs.Events.{events, events_below}
 use Rattle.call_tree.proofs.Chunks.{grouped-some, grouped-none, by_chunks}
 use Rattle.call_tree.proofs.Fits.{last_end, FitBetween-parts, FitBetween-grouped, by_bound}
 use Rattle.call_tree.proofs.Forest.{Forest, none, call, flat, items_of}

@@ -6,10 +6,10 @@ use Rattle.trace_base.specs.declared.stream.Event.{Event}
 use Rattle.trace_base.specs.declared.stream.TrackStream.{TrackStream}
 use Rattle.node_key.specs.Tree.{Tree}
 use Rattle.node_key.specs.Items.{node}
-use Rattle.call_tree.specs.Bound.{bound}
-use Rattle.call_tree.specs.Events.{events}
-use Rattle.call_tree.specs.Trees.{tree}
-use Rattle.call_tree.specs.Laws.{moved, since, TreesKeepEvents, stream_from, TreesGiveStreams}
+use Rattle.node_key.specs.Bound.{bound}
+use Rattle.node_key.specs.Events.{events, stream_from}
+use Rattle.node_key.specs.Trees.{tree}
+use Rattle.call_tree.specs.Laws.{moved, since, TreesKeepEvents, TreesGiveStreams}
 use Rattle.call_tree.specs.Laws.{TreesTellStreams}
 use Rattle.call_tree.proofs.Forest.{Forest, flat, items_of}
 use Rattle.call_tree.proofs.Parsing.{Sound-le, legal_calls, parse}
@@ -35,7 +35,7 @@ dur-tree : (s : TrackStream) → (tree s).dur ≡ s.end - s.start
 unfolding tree
 dur-tree s = refl
 
-end-start : (s : TrackStream) → IsLegal s → s.end ≡ (tree s).dur + s.start
+pub end-start : (s : TrackStream) → IsLegal s → s.end ≡ (tree s).dur + s.start
 end-start s legal =
     omega (arith, dur-tree s, Sound-le (parse s.events).now s.start s.end (legal_calls s legal).sound)
 

@@ -1,28 +1,23 @@
 -- How large the tree of a legal stream is.
-use Rattle.std.proofs.Common.{◌≡◌, ℕ, ◌+◌, ◌-◌, ◌*◌, ◌/◌, ◌<◌, ◌≤◌, max, zero, suc, List, [], ◌∷◌, ◌++◌}
+use Rattle.std.proofs.Common.{◌≡◌, ℕ, ◌+◌, ◌-◌, ◌*◌, ◌<◌, ◌≤◌, max, List, [], ◌∷◌, ◌++◌}
 use Rattle.std.proofs.Common.{length, take, drop, refl, sym, ap, subst}
-use Rattle.std.proofs.Common.{◌∙◌, arith, length-append, length-take, take-append-drop, append-nil}
-use Rattle.trace_base.specs.Stream.{IsLegal}
+use Rattle.std.proofs.Common.{arith, length-append, length-take, take-append-drop, append-nil}
 use Rattle.trace_base.specs.declared.stream.Event.{Event}
 use Rattle.trace_base.specs.declared.stream.Event.TheVariants.{Enter, Leave}
-use Rattle.trace_base.specs.declared.stream.TrackStream.{TrackStream}
 use Rattle.trace_base.specs.declared.limits.TheConstants.{MAX_TIME}
-use Rattle.node_key.specs.Tree.{Tree, Kids, no_kids, kid, count, height, height_above, nodes, nodes_below}
+use Rattle.node_key.specs.Tree.{height, nodes, nodes_below}
 use Rattle.node_key.specs.Branches.{kids_of}
 use Rattle.node_key.specs.Items.{end_of, branches_from, FitBetween, node}
 use Rattle.node_key.specs.declared.item.Item.{Item}
-use Rattle.node_key.specs.declared.limits.TheConstants.{MAX_HEIGHT, MAX_KIDS}
 use Rattle.node_key.proofs.Kids.{count-kids_of, length-branches_from, FitBetween-le}
-use Rattle.call_tree.specs.Bound.{group, grouped, bound, start_of, stop_of}
+use Rattle.node_key.specs.Bound.{group, grouped, bound, stop_of}
 use Rattle.call_tree.specs.Bounds.{KidsWithin, IsWithinBounds, TreesAreBounded}
-use Rattle.call_tree.specs.Trees.{tree}
-use Rattle.call_tree.proofs.Chunks.{grouped-some, grouped-none, length-grouped, by_chunks, bound-few}
-use Rattle.call_tree.proofs.Chunks.{bound-more}
-use Rattle.call_tree.proofs.Fits.{Low, Low-nil, Low-cons, Low-weaker, Low-bound, height_above-low, eights}
+use Rattle.call_tree.proofs.Chunks.{grouped-some, grouped-none, length-grouped, by_chunks}
+use Rattle.call_tree.proofs.Fits.{Low, Low-nil, Low-cons, Low-weaker, Low-bound, height_above-low}
 use Rattle.call_tree.proofs.Fits.{last_end, FitBetween-parts}
-use Rattle.call_tree.proofs.Fits.{FitBetween-grouped, FitBetween-bound, length-bound-le, by_bound}
+use Rattle.call_tree.proofs.Fits.{FitBetween-grouped, length-bound-le, by_bound}
 use Rattle.call_tree.proofs.Fits.{stop_of-last_end, last_end-le}
-use Rattle.call_tree.proofs.Forest.{Forest, none, call, flat, items_of, enters, enters-append, length-flat}
+use Rattle.call_tree.proofs.Forest.{Forest, none, call, flat, items_of, enters, enters-append}
 use Rattle.call_tree.proofs.Parsing.{Fine, Closer, entered, parse, parse-is, Sound, Sound-le, legal_fine}
 use Rattle.call_tree.proofs.Parsing.{legal_calls, enters-filter}
 use Rattle.call_tree.proofs.StreamTrees.{tree-calls, FitBetween-items}

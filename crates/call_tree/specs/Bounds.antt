@@ -1,11 +1,11 @@
 -- How large the tree of a stream is.
-use Rattle.std.specs.Prelude.{ℕ, ◌+◌, ◌≤◌, max, length}
+use Rattle.std.specs.Prelude.{◌≤◌, max, length}
 use Rattle.trace_base.specs.Stream.{IsLegal}
 use Rattle.trace_base.specs.declared.stream.TrackStream.{TrackStream}
 use Rattle.trace_base.specs.declared.limits.TheConstants.{MAX_TIME}
 use Rattle.node_key.specs.Tree.{Tree, Kids, no_kids, kid, count, height, nodes}
 use Rattle.node_key.specs.declared.limits.TheConstants.{MAX_HEIGHT, MAX_KIDS}
-use Rattle.call_tree.specs.Trees.{tree}
+use Rattle.node_key.specs.Trees.{tree}
 
 -- each gap and each duration below is within the greatest time, and each node below has at most 8 kids
 abbrev pub KidsWithin : Kids → Type 0

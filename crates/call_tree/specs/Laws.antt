@@ -5,9 +5,8 @@ use Rattle.trace_base.specs.declared.stream.Event.{Event}
 use Rattle.trace_base.specs.declared.stream.Event.TheVariants.{Enter, Leave}
 use Rattle.trace_base.specs.declared.stream.TrackStream.{TrackStream}
 use Rattle.trace_base.specs.declared.limits.TheConstants.{MAX_TIME}
-use Rattle.node_key.specs.Tree.{Tree}
-use Rattle.call_tree.specs.Events.{events}
-use Rattle.call_tree.specs.Trees.{tree}
+use Rattle.node_key.specs.Events.{events, stream_from}
+use Rattle.node_key.specs.Trees.{tree}
 
 -- the event, later by a time in nanoseconds
 abbrev pub moved : ℕ → Event → Event
@@ -22,10 +21,6 @@ since start (Leave t) = Leave (t - start)
 -- the events of the tree of a legal stream, from its start on, are its events
 abbrev pub TreesKeepEvents : Type 0
 TreesKeepEvents = (s : TrackStream) → IsLegal s → events (tree s) s.start ≡ s.events
-
--- the stream that a tree is from a start on
-abbrev pub stream_from : Tree → ℕ → TrackStream
-stream_from t start = record { start = start; end = start + t.dur; events = events t start }
 
 -- the tree of a legal stream and any start within the greatest time give a legal stream, whose tree it is
 abbrev pub TreesGiveStreams : Type 0

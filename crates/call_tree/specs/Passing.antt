@@ -7,7 +7,7 @@ use Rattle.node_key.specs.Tree.{height}
 use Rattle.node_key.specs.Items.{FitBetween, node}
 use Rattle.node_key.specs.declared.item.Item.{Item}
 use Rattle.node_key.specs.declared.limits.TheConstants.{MAX_HEIGHT, MAX_KIDS}
-use Rattle.call_tree.specs.Bound.{bound}
+use Rattle.node_key.specs.Bound.{bound}
 use Rattle.call_tree.specs.declared.pass.Open.{Open}
 
 -- what lies in an open call can be closed at this time

@@ -1,5 +1,5 @@
 ghost use Rattle.std.specs.Prelude.{◌≡◌, ◌-◌, ◌≤◌, All, IfOk};
-ghost use Rattle.call_tree.specs.Bound.{bound};
+ghost use Rattle.node_key.specs.Bound.{bound};
 ghost use Rattle.node_key.specs.Items.{FitBetween};
 ghost use Rattle.node_key.specs.Tree.{height};
 

@@ -1,6 +1,6 @@
 ghost use Rattle.std.specs.Prelude.{◌≡◌, [], ◌∷◌, ◌++◌, IfOk};
 ghost use Rattle.call_tree.specs.Passing.{CanClose, MayCome, PassesEvent, closed_item};
-ghost use Rattle.call_tree.specs.Trees.{tree};
+ghost use Rattle.node_key.specs.Trees.{tree};
 ghost use Rattle.trace_base.specs.Stream.{IsLegal};
 
 use crate::bounding::split;

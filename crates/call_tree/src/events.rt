@@ -1,5 +1,5 @@
 ghost use Rattle.std.specs.Prelude.{◌≡◌, ◌+◌, ◌≤◌, ◌==◌, [], ◌∷◌, ◌++◌, if◌then◌else◌, IfOk, OnOk};
-ghost use Rattle.call_tree.specs.Events.{events};
+ghost use Rattle.node_key.specs.Events.{events};
 ghost use Rattle.trace_base.specs.declared.stream.Event.TheVariants.{Enter, Leave};
 
 use node_key::CallTree;

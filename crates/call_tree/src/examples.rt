@@ -2,10 +2,10 @@
 ghost use Rattle.std.specs.Prelude.{◌≡◌, ◌∷◌, [], length, map};
 ghost use Rattle.trace_base.specs.declared.stream.Event.TheVariants.{Enter, Leave};
 ghost use Rattle.trace_base.specs.Examples.{two_calls, recursion, no_length};
-ghost use Rattle.call_tree.specs.Calls.{calls, outermost_calls, inner_calls};
-ghost use Rattle.call_tree.specs.Bound.{bound};
-ghost use Rattle.call_tree.specs.Trees.{tree};
-ghost use Rattle.call_tree.specs.Events.{events};
+ghost use Rattle.node_key.specs.Calls.{calls, outermost_calls, inner_calls};
+ghost use Rattle.node_key.specs.Bound.{bound};
+ghost use Rattle.node_key.specs.Trees.{tree};
+ghost use Rattle.node_key.specs.Events.{events};
 ghost use Rattle.call_tree.specs.Examples.{calls_of_main, in_a_row, nothing, second_later, second_longer};
 ghost use Rattle.call_tree.specs.Examples.{touching};
 ghost use Rattle.node_key.specs.Keys.{distinct};
@@ -13,7 +13,7 @@ ghost use Rattle.std.specs.Prelude.{false, true};
 ghost use Rattle.node_key.specs.Tree.{count, height, kid, no_kids, nodes, same_tree};
 
 /// Main calls f twice: the calls as pairs of positions, and which lie in no other.
-#[tactic(auto, unfolding(crate::specs::Calls::outer_calls))]
+#[tactic(auto, unfolding(node_key::specs::Calls::outer_calls))]
 pub fn calls_of_two_calls()
     ensures all { calls two_calls.events ≡ record { enter = 0; leave = 5 } ∷ record { enter = 1; leave = 2 }
         ∷ record { enter = 3; leave = 4 } ∷ [] }
@@ -23,7 +23,7 @@ pub fn calls_of_two_calls()
 {}
 
 /// Trees of small streams.
-#[tactic(auto, unfolding(crate::specs::Calls::outer_calls, crate::specs::Bound::grouped, crate::specs::Bound::bound, crate::specs::Trees::tree))]
+#[tactic(auto, unfolding(node_key::specs::Calls::outer_calls, node_key::specs::Bound::grouped, node_key::specs::Bound::bound, node_key::specs::Trees::tree))]
 pub fn trees_of_small_streams()
     ensures two_calls { tree two_calls ≡ record {
       func = 0;
@@ -44,7 +44,7 @@ pub fn trees_of_small_streams()
 {}
 
 /// Bounded lists of 8, 9, 16, 17 and 65 calls.
-#[tactic(auto, unfolding(crate::specs::Bound::grouped, crate::specs::Bound::bound))]
+#[tactic(auto, unfolding(node_key::specs::Bound::grouped, node_key::specs::Bound::bound))]
 pub fn bounded_lists()
     ensures eight { bound (in_a_row 8) ≡ in_a_row 8 }
     ensures nine { map (λ i. count i.tree.kids) (bound (in_a_row 9)) ≡ 8 ∷ 0 ∷ [] }
@@ -55,7 +55,7 @@ pub fn bounded_lists()
 
 /// A stream without calls, calls that touch, nine calls in one call, and what is one tree: the same a second
 /// later is, with a longer call it isn't.
-#[tactic(auto, unfolding(crate::specs::Calls::outer_calls, crate::specs::Bound::grouped, crate::specs::Bound::bound, crate::specs::Trees::tree, node_key::specs::Keys::different_subtrees))]
+#[tactic(auto, unfolding(node_key::specs::Calls::outer_calls, node_key::specs::Bound::grouped, node_key::specs::Bound::bound, node_key::specs::Trees::tree, node_key::specs::Keys::different_subtrees))]
 pub fn trees_of_more_streams()
     ensures nothing { tree nothing ≡ record { func = 0; dur = 2; kids = no_kids } }
     ensures touching { tree touching ≡ record {
@@ -72,7 +72,7 @@ pub fn trees_of_more_streams()
 {}
 
 /// The events of a tree from a time on.
-#[tactic(auto, unfolding(crate::specs::Events::events))]
+#[tactic(auto, unfolding(node_key::specs::Events::events))]
 pub fn events_of_a_small_tree()
     ensures { events (record { func = 0; dur = 10; kids = kid 1 7 5 (kid 2 8 3 no_kids no_kids) no_kids }) 20
         ≡ Enter 7 21 ∷ Enter 8 23 ∷ Leave 26 ∷ Leave 26 ∷ [] }

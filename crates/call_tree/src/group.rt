@@ -1,7 +1,7 @@
 //! Groups of items.
 ghost use Rattle.std.specs.Prelude.{◌≡◌, ◌≢◌, ◌+◌, ◌<◌, ◌≤◌, [], All, IfOk, OnOk, drop, length, take};
 ghost use Rattle.std.specs.Vec.Iter.{into_iter_items};
-ghost use Rattle.call_tree.specs.Bound.{group, grouped, start_of, stop_of};
+ghost use Rattle.node_key.specs.Bound.{group, grouped, start_of, stop_of};
 ghost use Rattle.node_key.specs.Items.{FitBetween};
 ghost use Rattle.node_key.specs.Tree.{height};
 

@@ -1,5 +1,7 @@
 -- A history is legal in at most one way, so that a ghost field can keep that it is.
 use Rattle.std.specs.Prelude.{◌≡◌, ℕ, ◌<◌, List, length, slice_get, Some}
+use Rattle.std.specs.Coded.{Coded, code_by, coded×, coded_ℕ}
+use Rattle.std.proofs.Common.{refl, sym, ap, ◌∙◌}
 use Rattle.std.proofs.Props.{props}
 use base.Stored.{Coded-set}
 use mathlib.Core.HLevel.{is_prop→PathP}
@@ -13,8 +15,11 @@ use Rattle.trace_base.specs.contracts.names.Container as container
 use Rattle.trace_base.specs.contracts.names.Track as track
 use Rattle.trace_base.specs.contracts.names.TraceInfo as info
 use Rattle.trace_base.specs.contracts.stream.TrackStream as stream
-use Rattle.hall_trait.specs.History.{Entry, Opened, Published, Sealed, Dropped, Closed, Asked, FitsTrack}
-use Rattle.hall_trait.specs.History.{MayFollow, IsLegalHistory, info_of}
+use Rattle.node_key.specs.History.{Entry, EntryOf, Opened, Published, Sealed, Dropped, Closed, Asked}
+use Rattle.node_key.specs.History.{FitsTrack, IsTrackTree, MayFollow, IsLegalHistory, PublishedTree, info_of}
+use Rattle.node_key.specs.History.{published_tree, stream_published}
+use Rattle.node_key.specs.Tree.{Tree, tree_code}
+use Rattle.hall_trait.proofs.PublishedStreams.{stream_read_back}
 
 Container-set : IsSet Container
 Container-set = Coded-set container.the_row.coded
@@ -27,6 +32,14 @@ TraceInfo-set = Coded-set info.the_row.coded
 
 pub TrackStream-set : IsSet TrackStream
 TrackStream-set = Coded-set stream.the_row.coded
+
+-- what is published is stored as a pair
+published_code : Coded PublishedTree
+published_code = code_by (ℕ × Tree) (coded× coded_ℕ tree_code) (λ p. (p.start, p.tree))
+    (λ q. record { start = q.0; tree = q.1 }) (λ _. refl)
+
+pub PublishedTree-set : IsSet PublishedTree
+PublishedTree-set = Coded-set published_code
 
 IsLegalInfo-prop : (i : TraceInfo) → IsProp (IsLegalInfo i)
 IsLegalInfo-prop i = hlevel props
@@ -57,10 +70,10 @@ Fits-prop : (s : TrackStream) (info : TraceInfo) (track : ℕ) → IsProp (Fits 
 unfolding Interval
 Fits-prop s info track = hlevel (props, IsLegal-prop, Interval-prop s info track)
 
-MayBeTrack : List Entry → ℕ → ℕ → TrackStream → Type 0
+MayBeTrack : {X : Type 0} → List (EntryOf X) → ℕ → ℕ → TrackStream → Type 0
 MayBeTrack entries id track s = FitsTrack entries id track s
 
-MayBeTrack-prop : (entries : List Entry) (id track : ℕ) (s : TrackStream)
+MayBeTrack-prop : {X : Type 0} (entries : List (EntryOf X)) (id track : ℕ) (s : TrackStream)
     → IsProp (MayBeTrack entries id track s)
 unfolding MayBeTrack
 MayBeTrack-prop entries id track s u v =
@@ -73,11 +86,25 @@ MayBeTrack-prop entries id track s u v =
       is_prop→PathP (λ i. Fits s (same_info i) track) (λ i. Fits-prop s (same_info i) track) u.3 v.3 i,
     )
 
+-- what is published is the tree of one stream that fits
+IsTrackTree-prop : {X : Type 0} (entries : List (EntryOf X)) (id track : ℕ) (p : PublishedTree)
+    → IsProp (IsTrackTree entries id track p)
+unfolding MayBeTrack
+IsTrackTree-prop entries id track p u v =
+    let back = λ (w : IsTrackTree entries id track p). stream_read_back w.0 w.1.3.legal in
+    let same : u.0 ≡ v.0 = sym (back u) ∙ ap stream_published (sym u.2 ∙ v.2) ∙ back v in
+    λ i. (
+      same i,
+      is_prop→PathP (λ i. MayBeTrack entries id track (same i))
+          (λ i. MayBeTrack-prop entries id track (same i)) u.1 v.1 i,
+      is_prop→PathP (λ i. p ≡ published_tree (same i)) (λ i. hlevel (props, PublishedTree-set)) u.2 v.2 i,
+    )
+
 MayFollow-prop : (entries : List Entry) (e : Entry) → IsProp (MayFollow entries e)
 unfolding MayBeTrack
 MayFollow-prop entries (Opened id info) = hlevel (props, IsLegalInfo-prop)
-MayFollow-prop entries (Published id track s) =
-    hlevel (props, TrackStream-set, MayBeTrack-prop entries id track s)
+MayFollow-prop entries (Published id track p) =
+    hlevel (props, PublishedTree-set, IsTrackTree-prop entries id track p)
 MayFollow-prop entries (Sealed id) = hlevel props
 MayFollow-prop entries (Dropped id) = hlevel props
 MayFollow-prop entries (Closed id) = hlevel props

@@ -6,7 +6,7 @@ use Rattle.std.specs.Prelude.{slice_get}
 use Rattle.std.proofs.lemmas.List.{take-append-le, take-take}
 use Rattle.std.proofs.Math.Seq.{take-append_seam}
 use Rattle.std.proofs.lemmas.Option.{slice_get_within}
-use Rattle.hall_trait.specs.History.{Entry, MayFollow, IsLegalHistory}
+use Rattle.node_key.specs.History.{Entry, MayFollow, IsLegalHistory}
 
 slice_get-append_left : {X : Type 0} (xs ys : List X) (k : ℕ) → k < length xs
     → slice_get (xs ++ ys) k ≡ slice_get xs k

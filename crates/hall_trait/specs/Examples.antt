@@ -2,12 +2,16 @@
 use Rattle.std.specs.Prelude.{List, [], ◌∷◌}
 use Rattle.trace_base.specs.declared.names.TraceInfo.{TraceInfo}
 use Rattle.trace_base.specs.declared.stream.TrackStream.{TrackStream}
-use Rattle.hall_trait.specs.History.{Entry, Opened, Published, Sealed, Dropped, Closed, Asked}
-use Rattle.hall_trait.specs.History.{IsLegalHistory}
+use Rattle.node_key.specs.History.{Entry, Opened, Published, PublishedTree, Sealed, Dropped, Closed}
+use Rattle.node_key.specs.History.{Asked, IsLegalHistory, published_tree}
 
 -- a track on which nothing happens
 abbrev pub quiet : TrackStream
 quiet = record { start = 0; end = 10; events = [] }
+
+-- what is published of it
+abbrev pub quiet_tree : PublishedTree
+quiet_tree = published_tree quiet
 
 -- a trace without tracks
 abbrev pub bare : TraceInfo
@@ -51,9 +55,18 @@ doubled = record {
   messages = record { messages = []; unmatched = 0 };
 }
 
+-- nothing has happened yet
+abbrev pub no_entries : List Entry
+no_entries = []
+
 -- A trace of one track is loaded, asked for and closed, while one without tracks is opened and dropped.
 abbrev pub small : List Entry
-small = Opened 1 lone ∷ Published 1 0 quiet ∷ Asked ∷ Sealed 1 ∷ Opened 2 bare ∷ Closed 1 ∷ Dropped 2 ∷ []
+small = Opened 1 lone ∷ Published 1 0 quiet_tree ∷ Asked ∷ Sealed 1 ∷ Opened 2 bare ∷ Closed 1 ∷ Dropped 2
+    ∷ []
+
+-- both traces are opened
+abbrev pub two_opened : List Entry
+two_opened = Opened 1 lone ∷ Opened 2 bare ∷ []
 
 -- the history isn't legal
 abbrev pub IsUnlawful : List Entry → Type 0

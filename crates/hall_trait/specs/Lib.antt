@@ -1,6 +1,5 @@
 pub mod Answers
 pub mod Examples
-pub mod History
+pub mod Nodes
 pub mod Pass
 pub mod Pin
-pub mod Seat

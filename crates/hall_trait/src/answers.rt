@@ -7,7 +7,9 @@ pub enum HallFault {
     /// No memory was found.
     #[error("out of memory")]
     Memory,
-    /// The places are used up: so many are taken or promised, which leaves no room for what the call needs.
+    /// A number is used up. Where places are needed it is how many are taken or promised, which leaves no
+    /// room for what the call needs; where a node is interned, how many numbers its room gave, or how many
+    /// references to it there are.
     #[error("number {0} is used up")]
     Spent(u64),
     /// The most traces are open, as of this place.
@@ -24,4 +26,13 @@ pub enum AskAnswer {
     Unknown { id: u64, next: u64, place: u64 },
     /// The places are used up: so many are taken or promised, which leaves no room for one more.
     Spent(u64),
+}
+
+/// What a hall tells of a track of a pinned trace, as of the place of the pin.
+#[derive(Clone, Copy, Debug, PartialEq, Eq)]
+pub enum Published {
+    /// It starts at `start`, in nanoseconds, and its tree is that of the node `root`.
+    Root { start: u64, root: u64 },
+    /// It isn't published there.
+    NotYet,
 }

@@ -5,6 +5,7 @@
 mod examples;
 mod item;
 mod key;
+mod left;
 mod limits;
 mod rooms;
 #[cfg(test)]
@@ -13,6 +14,7 @@ mod tree;
 
 pub use item::Item;
 pub use key::{Kid, NodeKey};
+pub use left::Left;
 pub use limits::{HEIGHT_BOUND, MAX_HEIGHT, MAX_KIDS, MAX_NUMBERS, STORE_ROOMS};
 pub use rooms::{room_of_key, room_of_number};
 pub use tree::{Branch, CallTree};

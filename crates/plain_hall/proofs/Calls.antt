@@ -8,18 +8,18 @@ use Rattle.trace_base.specs.declared.asks.AskIds.{AskIds}
 use Rattle.trace_base.specs.declared.asks.AskIds.TheVariants.{One, Two}
 use Rattle.trace_base.specs.declared.asks.PassState.TheVariants.{Straight, Whole}
 use Rattle.trace_base.specs.declared.names.TraceInfo.{TraceInfo}
-use Rattle.trace_base.specs.declared.stream.TrackStream.{TrackStream}
 use Rattle.hall_trait.specs.Answers.{HasRoom, places_of_load, Admits, MakesLoadEntry, left_after}
 use Rattle.hall_trait.specs.Answers.{AreOpen, IsFirstUnknown}
-use Rattle.hall_trait.specs.History.{Entry, Opened, Published, Asked, opened_ids, is_open}
-use Rattle.hall_trait.specs.History.{is_loading, tracks_of, published_count}
+use Rattle.node_key.specs.History.{Entry, Opened, Published, Asked, opened_ids, is_open}
+use Rattle.node_key.specs.History.{is_loading, tracks_of, published_count, PublishedTree}
 use Rattle.plain_hall.specs.Kept.{IsKept}
 use Rattle.plain_hall.specs.Loading.{pass_of, passes_of}
 use Rattle.plain_hall.specs.Orderly.{IsOrderly}
 use Rattle.hall_trait.specs.Pass.{state_at, left_in, state_after, pass_view, advanced, IsFresh, IsNext}
 use Rattle.hall_trait.specs.Pin.{first_id, second_id}
 use Rattle.plain_hall.specs.PlainSeat.{plain_seat}
-use Rattle.hall_trait.specs.Seat.{PinView, PassView, Becomes}
+use Rattle.node_key.specs.Seat.{PinView, PassView, Becomes}
+use Rattle.node_key.specs.Stakes.{Stake}
 use Rattle.hall_trait.specs.declared.pass.LoadPass.{LoadPass}
 use Rattle.hall_trait.proofs.More.{count_more, info_more, or_none}
 use Rattle.plain_hall.proofs.Passes.{Opens, asked_keeps, published_goes_on, opened_opens, has_loading}
@@ -85,11 +85,11 @@ left_is_rest entries pass facts = ap₂ left_in (sym facts.state) (sym facts.to)
 same_view : (p q : PassView) → p.id ≡ q.id → p.from ≡ q.from → p.to ≡ q.to → p.state ≡ q.state → p ≡ q
 same_view p q id from to state = λ i. record { id = id i; from = from i; to = to i; state = state i }
 
-pub opened_answer : (old new : List Entry) (owed live : ℕ) (pins : List PinView) (pass : LoadPass)
+pub opened_answer : (stakes : List Stake) (old new : List Entry) (owed live : ℕ) (pins : List PinView) (pass : LoadPass)
     (info : TraceInfo) → new ≡ old ++ Opened pass.id info ∷ [] → pass.id ≡ length (opened_ids old) + 1
     → pass.place ≡ length new → IsFresh pass (length info.names.tracks) → HasRoom old (places_of_load info)
-    → IsKept old owed live → Admits true (plain_seat old pins) (plain_seat new pins) info (Ok pass)
-opened_answer old new owed live pins pass info seen next last fresh room kept =
+    → IsKept old owed live → Admits true (plain_seat stakes old pins) (plain_seat stakes new pins) info (Ok pass)
+opened_answer stakes old new owed live pins pass info seen next last fresh room kept =
     let more : Opens old new pass.id info = subst (λ (es : List Entry). Opens old es pass.id info) (sym seen)
     (opened_opens old pass.id info kept.orderly next) in
     let tracks : tracks_of new pass.id ≡ length info.names.tracks =
@@ -97,22 +97,23 @@ opened_answer old new owed live pins pass info seen next last fresh room kept =
     let view : pass_of new pass.id ≡ pass_view pass = same_view _ _ refl (sym fresh.from)
     (tracks ∙ sym fresh.to) (ap₂ state_at more.count tracks ∙ sym fresh.state) in
     record {
-      entered = makes old new pins pins (Opened pass.id info) pass.place seen last;
+      entered = makes stakes stakes old new pins pins (Opened pass.id info) pass.place seen last;
       next = omega (arith, next, ap length more.ids, length-append (opened_ids old) (pass.id ∷ []));
       opened = more.told;
       fresh = fresh;
       passes = more.passes ∙ ap (λ p. passes_of old ++ p ∷ []) view;
       pins = refl;
+      stakes = refl;
       room = room;
     }
 
 -- an entry of a load, by what it leaves of the pass of its trace
-pub load_entry : (old new : List Entry) (pins : List PinView) (pass : LoadPass) (e : Entry) (place : ℕ)
+pub load_entry : (stakes left_stakes : List Stake) (old new : List Entry) (pins : List PinView) (pass : LoadPass) (e : Entry) (place : ℕ)
     → new ≡ old ++ e ∷ [] → place ≡ length new → IsPassOf old pass
     → Becomes (passes_of old) (passes_of (old ++ e ∷ [])) (pass_of old pass.id) (left_after pass e)
-    → MakesLoadEntry true (plain_seat old pins) (plain_seat new pins) pass e place
-load_entry old new pins pass e place seen last facts left = record {
-  entered = makes old new pins pins e place seen last;
+    → MakesLoadEntry true (plain_seat stakes old pins) (plain_seat left_stakes new pins) pass e place
+load_entry stakes left_stakes old new pins pass e place seen last facts left = record {
+  entered = makes stakes left_stakes old new pins pins e place seen last;
   passes = subst (λ (view : PassView). Becomes (passes_of old) (passes_of new) view (left_after pass e))
       facts.view (subst (λ (es : List Entry). Becomes (passes_of old) (passes_of es) (pass_of old pass.id)
       (left_after pass e)) (sym seen) left);
@@ -120,7 +121,7 @@ load_entry old new pins pass e place seen last facts left = record {
 }
 
 -- the pass of a trace of which one track more is published
-pub published_left : (old : List Entry) (pass : LoadPass) (track : ℕ) (s : TrackStream) → IsOrderly old
+pub published_left : (old : List Entry) (pass : LoadPass) (track : ℕ) (s : PublishedTree) → IsOrderly old
     → IsNext pass track → IsPassOf old pass → Becomes (passes_of old)
     (passes_of (old ++ Published pass.id track s ∷ [])) (pass_of old pass.id)
     (left_after pass (Published pass.id track s))

@@ -1,20 +1,20 @@
 -- What a history tells of a trace was in one of its entries, and stays.
 use Rattle.std.proofs.Common.{◌≡◌, ℕ, ◌≤◌, Bool, true, false, ◌||◌, ◌&&◌, not, cond, eqb, List, [], ◌∷◌, ◌++◌}
 use Rattle.std.proofs.Common.{length, take, drop, Option, None, Some, refl, sym, ap, ◌∙◌, arith, suc}
-use Rattle.std.proofs.Common.{length-append, Contains, get_or, map, subst, Bor}
-use Rattle.std.specs.Prelude.{slice_get, is_some, IsSome, IfSome}
+use Rattle.std.proofs.Common.{length-append, Contains, get_or, map, subst}
+use Rattle.std.specs.Prelude.{slice_get, is_some, IsSome}
 use Rattle.std.specs.List.{list_any, filter_map, cons_option}
-use Rattle.std.specs.Option.{option_or, option_to_list, option_copied, ForSome}
+use Rattle.std.specs.Option.{option_or, option_to_list, ForSome}
 use Rattle.std.proofs.lemmas.List.{take-append-drop, take-append-le, take_all}
 use Rattle.trace_base.specs.Info.{IsLegalInfo}
 use Rattle.trace_base.specs.declared.names.TraceInfo.{TraceInfo}
-use Rattle.trace_base.specs.declared.stream.TrackStream.{TrackStream}
-use Rattle.hall_trait.specs.History.{Entry, Opened, Published, Sealed, Dropped, Closed, Asked, opened_id}
-use Rattle.hall_trait.specs.History.{info_opened, stream_published, ends, opened_ids, info_of, stream_of}
-use Rattle.hall_trait.specs.History.{is_open, published_count, FitsTrack, MayFollow, IsLegalHistory}
+use Rattle.node_key.specs.History.{Entry, EntryOf, Opened, Published, Sealed, Dropped, Closed, Asked, opened_id}
+use Rattle.node_key.specs.History.{info_opened, published_as, ends, opened_ids, info_of, published_of}
+use Rattle.node_key.specs.History.{is_open, published_count, MayFollow, IsLegalHistory}
+use Rattle.node_key.specs.History.{IsTrackTree, PublishedTree}
 use Rattle.hall_trait.specs.Pin.{first_id, second_id, id_at}
 use Rattle.plain_hall.specs.PlainSeat.{IsHeld, kept_view}
-use Rattle.hall_trait.specs.Seat.{PinView}
+use Rattle.node_key.specs.Seat.{PinView}
 use Rattle.plain_hall.specs.declared.kept_pin.KeptPin.{KeptPin}
 use Rattle.std.proofs.lemmas.Bool.{eqb-true}
 use Rattle.std.proofs.lemmas.Bool.Decides.{nat_tests}
@@ -27,7 +27,7 @@ abbrev pub first : {X Y : Type 0} → (X → Option Y) → List X → Option Y
 first h xs = slice_get (filter_map h xs) 0
 
 -- the value is that of an item
-abbrev IsGivenBy : {X Y : Type 0} → (X → Option Y) → List X → Y → Type 0
+abbrev pub IsGivenBy : {X Y : Type 0} → (X → Option Y) → List X → Y → Type 0
 IsGivenBy {X} h xs y = (k : ℕ) × (x : X) × (slice_get xs k ≡ Some x) × (h x ≡ Some y)
 
 given_by_first : {X Y : Type 0} (h : X → Option Y) (x : X) (xs : List X) (y : Y)
@@ -39,7 +39,7 @@ given_by_first h x xs y later at None e =
 given_by_first h x xs y later at (Some z) e =
     (0, x, refl, e ∙ sym (ap (λ o. slice_get (cons_option o (filter_map h xs)) 0) e) ∙ at)
 
-found : {X Y : Type 0} (h : X → Option Y) (xs : List X) (y : Y) → first h xs ≡ Some y → IsGivenBy h xs y
+pub found : {X Y : Type 0} (h : X → Option Y) (xs : List X) (y : Y) → first h xs ≡ Some y → IsGivenBy h xs y
 found h [] y at = absurd cc
 found h (x ∷ xs) y at = given_by_first h x xs y (found h xs y) at (h x) refl
 
@@ -73,35 +73,35 @@ pub some_stays : {X : Type 0} (o p : Option X) (x : X) → o ≡ Some x → opti
 some_stays o p x e = ap (λ o. option_or o p) e
 
 -- the first value of some entries is that of all
-first_stays : {Y : Type 0} (h : Entry → Option Y) (entries : List Entry) (n : ℕ) (y : Y)
+first_stays : {X : Type 0} → {Y : Type 0} (h : EntryOf X → Option Y) (entries : List (EntryOf X)) (n : ℕ) (y : Y)
     → first h (take n entries) ≡ Some y → first h entries ≡ Some y
 first_stays h entries n y at = ap (first h) (sym (take-append-drop n entries)) ∙ first-append h
     (take n entries) (drop n entries) ∙ some_stays (first h (take n entries)) _ y at
 
-pub info_stays : (entries : List Entry) (n id : ℕ) (info : TraceInfo)
+pub info_stays : {X : Type 0} → (entries : List (EntryOf X)) (n id : ℕ) (info : TraceInfo)
     → info_of (take n entries) id ≡ Some info → info_of entries id ≡ Some info
 unfolding info_of
 info_stays entries n id info at = first_stays (info_opened id) entries n info at
 
-pub stream_stays : (entries : List Entry) (n id track : ℕ) (s : TrackStream)
-    → stream_of (take n entries) id track ≡ Some s → stream_of entries id track ≡ Some s
-unfolding stream_of
-stream_stays entries n id track s at = first_stays (stream_published id track) entries n s at
+pub published_stays : {X : Type 0} → (entries : List (EntryOf X)) (n id track : ℕ) (s : X)
+    → published_of (take n entries) id track ≡ Some s → published_of entries id track ≡ Some s
+unfolding published_of
+published_stays entries n id track s at = first_stays (published_as id track) entries n s at
 
 -- what isn't told by all isn't told by the first of them
-pub none_before : (entries : List Entry) (n id track : ℕ) → stream_of entries id track ≡ None
-    → stream_of (take n entries) id track ≡ None
-none_before entries n id track none = go (stream_of (take n entries) id track) refl
+pub none_before : {X : Type 0} → (entries : List (EntryOf X)) (n id track : ℕ) → published_of entries id track ≡ None
+    → published_of (take n entries) id track ≡ None
+none_before {X} entries n id track none = go (published_of (take n entries) id track) refl
   where
-    differ : (s : TrackStream) → ◌≡◌ {A = Option TrackStream} None (Some s) → ⊥
+    differ : (s : X) → ◌≡◌ {A = Option X} None (Some s) → ⊥
     differ s e = cc
 
-    go : (o : Option TrackStream) → stream_of (take n entries) id track ≡ o → o ≡ None
+    go : (o : Option X) → published_of (take n entries) id track ≡ o → o ≡ None
     go None e = refl
-    go (Some s) e = absurd (differ s (sym none ∙ stream_stays entries n id track s e))
+    go (Some s) e = absurd (differ s (sym none ∙ published_stays entries n id track s e))
 
 -- what was told at a place is told later
-pub same_info : (entries : List Entry) (n id : ℕ) → IsSome (info_of (take n entries) id)
+pub same_info : {X : Type 0} → (entries : List (EntryOf X)) (n id : ℕ) → IsSome (info_of (take n entries) id)
     → info_of (take n entries) id ≡ info_of entries id
 same_info entries n id told = go (info_of (take n entries) id) refl told
   where
@@ -110,33 +110,34 @@ same_info entries n id told = go (info_of (take n entries) id) refl told
     go None e t = absurd cc
     go (Some info) e t = e ∙ sym (info_stays entries n id info e)
 
-published_fits : (before : List Entry) (e : Entry) (id track : ℕ) (s : TrackStream)
-    → stream_published id track e ≡ Some s → MayFollow before e → FitsTrack before id track s
-published_fits before (Published other which t) id track s gives may =
-    let both = cond_some (eqb other id && eqb which track) t s gives in
+published_tracks : (before : List Entry) (e : Entry) (id track : ℕ) (p : PublishedTree)
+    → published_as id track e ≡ Some p → MayFollow before e → IsTrackTree before id track p
+published_tracks before (Published other which t) id track p gives may =
+    let both = cond_some (eqb other id && eqb which track) t p gives in
     let same_id : other ≡ id = eqb-true other id (and_left _ _ both.0) in
     let same_track : which ≡ track = eqb-true which track (and_right _ _ both.0) in
-    let P : ℕ → Type 0 = λ i. FitsTrack before i track s in
-    let Q : ℕ → Type 0 = λ i. FitsTrack before other i s in
-    let R : TrackStream → Type 0 = λ i. FitsTrack before other which i in
+    let P : ℕ → Type 0 = λ i. IsTrackTree before i track p in
+    let Q : ℕ → Type 0 = λ i. IsTrackTree before other i p in
+    let R : PublishedTree → Type 0 = λ i. IsTrackTree before other which i in
     subst P same_id (subst Q same_track (subst R both.1 may.2))
-published_fits before (Opened other i) id track s gives may = absurd cc
-published_fits before (Sealed other) id track s gives may = absurd cc
-published_fits before (Dropped other) id track s gives may = absurd cc
-published_fits before (Closed other) id track s gives may = absurd cc
-published_fits before Asked id track s gives may = absurd cc
+published_tracks before (Opened other i) id track p gives may = absurd cc
+published_tracks before (Sealed other) id track p gives may = absurd cc
+published_tracks before (Dropped other) id track p gives may = absurd cc
+published_tracks before (Closed other) id track p gives may = absurd cc
+published_tracks before Asked id track p gives may = absurd cc
 
--- a stream of a legal history fits its track
-pub stream_fits : (entries : List Entry) (id track : ℕ) (s : TrackStream) → IsLegalHistory entries
-    → stream_of entries id track ≡ Some s → FitsTrack entries id track s
-unfolding stream_of
-stream_fits entries id track s legal at =
-    let where_from = found (stream_published id track) entries s at in
-    let fits = published_fits (take where_from.0 entries) where_from.1 id track s where_from.3
+-- what is published in a legal history is the tree of a stream that fits its track
+pub published_fits : (entries : List Entry) (id track : ℕ) (p : PublishedTree) → IsLegalHistory entries
+    → published_of entries id track ≡ Some p → IsTrackTree entries id track p
+unfolding published_of
+published_fits entries id track p legal at =
+    let where_from = found (published_as id track) entries p at in
+    let tree = published_tracks (take where_from.0 entries) where_from.1 id track p where_from.3
     (legal where_from.0 where_from.1 where_from.2) in
-    (fits.0, info_stays entries where_from.0 id fits.0 fits.1, fits.2, fits.3)
+    let fits = tree.1 in
+    (tree.0, (fits.0, info_stays entries where_from.0 id fits.0 fits.1, fits.2, fits.3), tree.2)
 
-among-told : (entries : List Entry) (id : ℕ) → list_any (λ other. eqb other id) (filter_map opened_id entries)
+among-told : {X : Type 0} → (entries : List (EntryOf X)) (id : ℕ) → list_any (λ other. eqb other id) (filter_map opened_id entries)
     ≡ is_some (first (info_opened id) entries)
 among-told [] id = refl
 among-told (Opened other info ∷ entries) id =
@@ -150,23 +151,23 @@ among-told (Closed other ∷ entries) id = among-told entries id
 among-told (Asked ∷ entries) id = among-told entries id
 
 -- whether a trace is open, by what it was opened with
-pub open_by : (entries : List Entry) (id : ℕ)
+pub open_by : {X : Type 0} → (entries : List (EntryOf X)) (id : ℕ)
     → is_open entries id ≡ (is_some (info_of entries id) && not (list_any (ends id) entries))
 unfolding is_open opened_ids info_of
 open_by entries id = ap (λ b. b && not (list_any (ends id) entries)) (among-told entries id)
 
 -- a track that isn't published has no stream
-pub not_published : (entries : List Entry) (id track : ℕ) → IsOrderly entries
+pub not_published : {X : Type 0} → (entries : List (EntryOf X)) (id track : ℕ) → IsOrderly entries
     → published_count entries id ≤ track
-    → stream_of entries id track ≡ None
+    → published_of entries id track ≡ None
 not_published entries id track orderly past =
-    let off : is_some (stream_of entries id track) ≡ false = orderly.in_order id track ∙ grind
+    let off : is_some (published_of entries id track) ≡ false = orderly.in_order id track ∙ grind
     (arith, nat_tests) in
-    elim (stream_of entries id track) as (λ o. is_some o ≡ false → o ≡ None)
+    elim (published_of entries id track) as (λ o. is_some o ≡ false → o ≡ None)
     [ None ↦ λ e. refl | Some s ↦ λ e. absurd cc ] off
 
 -- a trace of which something is told has an id that was given
-pub told_within : (entries : List Entry) (id : ℕ) → IsOrderly entries → IsSome (info_of entries id)
+pub told_within : {X : Type 0} → (entries : List (EntryOf X)) (id : ℕ) → IsOrderly entries → IsSome (info_of entries id)
     → (1 ≤ id) × (id ≤ length (opened_ids entries))
 unfolding opened_ids info_of
 told_within entries id orderly told =
@@ -175,7 +176,7 @@ told_within entries id orderly told =
     (sym (ap (list_any (λ other. eqb other id)) orderly.ids) ∙ among) in
     (within.0, omega arith)
 
-pub open_told : (entries : List Entry) (id : ℕ) → is_open entries id ≡ true → IsSome (info_of entries id)
+pub open_told : {X : Type 0} → (entries : List (EntryOf X)) (id : ℕ) → is_open entries id ≡ true → IsSome (info_of entries id)
 open_told entries id on = and_left _ _ (sym (open_by entries id) ∙ on)
 
 -- what an open trace was opened with is told, and of one that isn't open nothing
@@ -184,7 +185,7 @@ pub open_some : {X : Type 0} (b : Bool) (o : Option X) (x : X) → cond b o None
 open_some true o x e = (refl, e)
 open_some false o x e = absurd cc
 
-pub open_none : (entries : List Entry) (id : ℕ) → cond (is_open entries id) (info_of entries id) None ≡ None
+pub open_none : {X : Type 0} → (entries : List (EntryOf X)) (id : ℕ) → cond (is_open entries id) (info_of entries id) None ≡ None
     → is_open entries id ≡ false
 open_none entries id none = go (is_open entries id) refl
   where
@@ -195,7 +196,7 @@ open_none entries id none = go (is_open entries id) refl
         sym (open_told entries id e) ∙ ap is_some nothing
 
 -- a pin is held on
-pub held_more : (old new : List Entry) (e : Entry) (pin : Option KeptPin) → new ≡ old ++ e ∷ []
+pub held_more : {X : Type 0} → (old new : List (EntryOf X)) (e : EntryOf X) (pin : Option KeptPin) → new ≡ old ++ e ∷ []
     → ForSome pin (IsHeld old) → ForSome pin (IsHeld new)
 held_more old new e pin seen held p is =
     let was = held p is in
@@ -207,7 +208,7 @@ held_more old new e pin seen held p is =
       second = ap (λ es. is_some (info_of es (second_id p.ids))) same ∙ was.second;
     }
 
-pub held_now : (entries : List Entry) (pin : KeptPin) → pin.place ≡ length entries
+pub held_now : {X : Type 0} → (entries : List (EntryOf X)) (pin : KeptPin) → pin.place ≡ length entries
     → is_open entries (first_id pin.ids) ≡ true → is_open entries (second_id pin.ids) ≡ true
     → IsHeld entries pin
 held_now entries pin last first_on second_on =
@@ -226,15 +227,8 @@ has_pin (Some p) view has =
     let at : has.0 ≡ 0 = omega (arith, has.1) in
     (p, refl, sym (ap (λ k. get_or (kept_view p ∷ []) k view) at) ∙ has.2)
 
--- the stream that is given fits, if there is one
-pub given_fits : (entries : List Entry) (id track : ℕ) (given : Option (Bor TrackStream))
-    → IsLegalHistory entries → option_copied given ≡ stream_of entries id track
-    → IfSome given (λ s. FitsTrack entries id track s.now)
-given_fits entries id track None legal at = tt
-given_fits entries id track (Some s) legal at = stream_fits entries id track s.now legal (sym at)
-
 -- the info of a pin's trace is told, and is the one of its place
-pub pin_told : (entries : List Entry) (pin : Option KeptPin) (view : PinView) (which : ℕ)
+pub pin_told : {X : Type 0} → (entries : List (EntryOf X)) (pin : Option KeptPin) (view : PinView) (which : ℕ)
     → ForSome pin (IsHeld entries) → Contains (map kept_view (option_to_list pin)) view
     → IsSome (info_of (take view.place entries) (id_at view.ids which))
 pin_told entries pin view which held has =

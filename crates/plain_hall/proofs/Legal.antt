@@ -9,12 +9,11 @@ use Rattle.std.proofs.lemmas.List.{append-nil}
 use Rattle.std.proofs.lemmas.Bool.{eq-eqb}
 use Rattle.std.proofs.lemmas.Bool.Decides.{eqb_tells, nat_tests}
 use Rattle.trace_base.specs.declared.names.TraceInfo.{TraceInfo}
-use Rattle.trace_base.specs.declared.stream.TrackStream.{TrackStream}
-use Rattle.hall_trait.specs.History.{Entry, Opened, Published, Sealed, Dropped, Closed, Asked, opened_id}
-use Rattle.hall_trait.specs.History.{opened_ids, info_of, stream_of, is_open, is_loading, tracks_of}
-use Rattle.hall_trait.specs.History.{published_count, MayFollow}
+use Rattle.node_key.specs.History.{Entry, EntryOf, Opened, Published, Sealed, Dropped, Closed, Asked, opened_id}
+use Rattle.node_key.specs.History.{opened_ids, info_of, published_of, is_open, is_loading, tracks_of}
+use Rattle.node_key.specs.History.{published_count, MayFollow, PublishedTree}
 use Rattle.plain_hall.specs.Orderly.{IsOrderly, IsUnborn}
-use Rattle.hall_trait.proofs.More.{SameData, subject, opened_more, info_more, stream_more, count_more}
+use Rattle.hall_trait.proofs.More.{SameData, subject, opened_more, info_more, published_more, count_more}
 use Rattle.hall_trait.proofs.More.{data_of_others, fate_of_others, data_sealed, data_dropped, data_closed}
 use Rattle.hall_trait.proofs.More.{data_asked, tracks_same, or_none}
 
@@ -47,7 +46,7 @@ and_left true b e = refl
 and_left false b e = e
 
 -- an open trace has an id that was given
-pub open_within : (entries : List Entry) (id : ℕ) → IsOrderly entries → is_open entries id ≡ true → (1 ≤ id)
+pub open_within : {X : Type 0} → (entries : List (EntryOf X)) (id : ℕ) → IsOrderly entries → is_open entries id ≡ true → (1 ≤ id)
     × (id ≤ length (opened_ids entries))
 unfolding is_open
 open_within entries id orderly on =
@@ -56,7 +55,7 @@ open_within entries id orderly on =
     (sym (ap (list_any (λ other. eqb other id)) orderly.ids) ∙ among) in
     (within.0, omega arith)
 
-pub loading_open : (entries : List Entry) (id : ℕ) → is_loading entries id ≡ true → is_open entries id ≡ true
+pub loading_open : {X : Type 0} → (entries : List (EntryOf X)) (id : ℕ) → is_loading entries id ≡ true → is_open entries id ≡ true
 unfolding is_loading
 loading_open entries id loading = and_left _ _ loading
 
@@ -86,7 +85,7 @@ subject_within entries (Closed id) orderly may = rw (opened_more entries (Closed
 subject_within entries Asked orderly may = omega arith
 
 -- no fewer ids
-ids_grow : (entries : List Entry) (e : Entry) → length (opened_ids entries) ≤ length
+ids_grow : {X : Type 0} → (entries : List (EntryOf X)) (e : EntryOf X) → length (opened_ids entries) ≤ length
     (opened_ids (entries ++ e ∷ []))
 ids_grow entries e = rw (opened_more entries e)
     (omega (arith, length-append (opened_ids entries) (option_to_list (opened_id e))))
@@ -110,18 +109,18 @@ ids_more entries (Closed id) orderly may = rw (opened_more entries (Closed id), 
 ids_more entries Asked orderly may = rw (opened_more entries Asked, append-nil) orderly.ids
 
 -- the two facts about one trace
-record IsInOrder (entries : List Entry) (id : ℕ) : Type 0 where
+record IsInOrder {X : Type 0} (entries : List (EntryOf X)) (id : ℕ) : Type 0 where
   counted : published_count entries id ≤ tracks_of entries id
-  in_order : (track : ℕ) → is_some (stream_of entries id track) ≡ ltb track (published_count entries id)
+  in_order : (track : ℕ) → is_some (published_of entries id track) ≡ ltb track (published_count entries id)
 
-in_order_same : (old new : List Entry) (id : ℕ) → SameData old new id → IsInOrder old id → IsInOrder new id
+in_order_same : {X : Type 0} → (old new : List (EntryOf X)) (id : ℕ) → SameData old new id → IsInOrder old id → IsInOrder new id
 in_order_same old new id same was = record {
   counted = rw (same.count, tracks_same old new id same) was.counted;
-  in_order = λ track. rw (same.streams track, same.count) (was.in_order track);
+  in_order = λ track. rw (same.published track, same.count) (was.in_order track);
 }
 
 -- a trace of which no entry tells has no tracks
-unborn_tracks : (entries : List Entry) (id : ℕ) → IsUnborn entries id → tracks_of entries id ≡ 0
+unborn_tracks : {X : Type 0} → (entries : List (EntryOf X)) (id : ℕ) → IsUnborn entries id → tracks_of entries id ≡ 0
 unborn_tracks entries id none = elim (info_of entries id) as (λ o. is_some o ≡ false
     → option_map_or (λ (info : TraceInfo). length info.names.tracks) o 0 ≡ 0) [
       | None ↦ λ e. refl
@@ -132,7 +131,7 @@ is_some-or : {X : Type 0} (o : Option X) (x : X) → is_some (option_or o (Some 
 is_some-or None x = refl
 is_some-or (Some y) x = refl
 
-in_order_published : (entries : List Entry) (id which : ℕ) (s : TrackStream) → IsOrderly entries
+in_order_published : (entries : List Entry) (id which : ℕ) (s : PublishedTree) → IsOrderly entries
     → MayFollow entries (Published id which s) → which ≡ published_count entries id
     → IsInOrder (entries ++ Published id which s ∷ []) id
 in_order_published entries id which s orderly may turn =
@@ -140,33 +139,33 @@ in_order_published entries id which s orderly may turn =
     let count : published_count (entries ++ Published id which s ∷ []) id ≡ published_count entries id
     + 1 = count_more entries (Published id which s) id ∙ ap (λ b. published_count entries id + cond b 1 0)
     this in
-    let told : tracks_of entries id ≡ length may.2.0.names.tracks =
-    ap (λ o. option_map_or (λ (info : TraceInfo). length info.names.tracks) o 0) may.2.1 in
+    let told : tracks_of entries id ≡ length may.2.1.0.names.tracks =
+    ap (λ o. option_map_or (λ (info : TraceInfo). length info.names.tracks) o 0) may.2.1.1 in
     let same : tracks_of (entries ++ Published id which s ∷ []) id ≡ tracks_of entries id =
     ap (λ o. option_map_or (λ (info : TraceInfo). length info.names.tracks) o 0)
     (info_more entries (Published id which s) id ∙ or_none _) in
-    let below : which < length may.2.0.names.tracks = may.2.2 in
+    let below : which < length may.2.1.0.names.tracks = may.2.1.2 in
     record {
       counted = omega arith;
       in_order = λ track.
-          let now : stream_of (entries ++ Published id which s ∷ []) id track ≡ option_or
-          (stream_of entries id track) (cond (eqb which track) (Some s) None) = stream_more entries
+          let now : published_of (entries ++ Published id which s ∷ []) id track ≡ option_or
+          (published_of entries id track) (cond (eqb which track) (Some s) None) = published_more entries
           (Published id which s) id track ∙ ap
-          (λ b. option_or (stream_of entries id track) (cond (b && eqb which track) (Some s) None)) this
+          (λ b. option_or (published_of entries id track) (cond (b && eqb which track) (Some s) None)) this
           in
-          let was : is_some (stream_of entries id track) ≡ ltb track (published_count entries id) =
+          let was : is_some (published_of entries id track) ≡ ltb track (published_count entries id) =
           orderly.in_order id track in
           elim (eqb_tells which track) [
             | inl at ↦
                 let last : ltb track (published_count entries id + 1) ≡ true = grind (arith, nat_tests) in
                 ap is_some now ∙ ap (λ b. is_some
-                (option_or (stream_of entries id track) (cond b (Some s) None))) at.0 ∙ is_some-or
-                (stream_of entries id track) s ∙ sym last ∙ ap (ltb track) (sym count)
+                (option_or (published_of entries id track) (cond b (Some s) None))) at.0 ∙ is_some-or
+                (published_of entries id track) s ∙ sym last ∙ ap (ltb track) (sym count)
             | inr off ↦
                 let lasts : ltb track (published_count entries id + 1) ≡ ltb track
                 (published_count entries id) = grind (arith, nat_tests) in
                 ap is_some now ∙ ap (λ b. is_some
-                (option_or (stream_of entries id track) (cond b (Some s) None))) off.0 ∙ ap is_some
+                (option_or (published_of entries id track) (cond b (Some s) None))) off.0 ∙ ap is_some
                 (or_none _) ∙ was ∙ sym lasts ∙ ap (ltb track) (sym count)
           ];
     }
@@ -180,8 +179,8 @@ in_order_more entries (Opened other info) id orderly may turn about was =
     omega (arith, was.counted, unborn_tracks entries id (orderly.unborn id (omega (arith, may.0)))) in
     record {
       counted = omega arith;
-      in_order = λ track. let same : stream_of (entries ++ Opened other info ∷ []) id track ≡ stream_of
-          entries id track = stream_more entries (Opened other info) id track ∙ or_none _
+      in_order = λ track. let same : published_of (entries ++ Opened other info ∷ []) id track ≡ published_of
+          entries id track = published_more entries (Opened other info) id track ∙ or_none _
           in rw (same, count) (was.in_order track);
     }
 in_order_more entries (Published other which s) id orderly may turn about was =
@@ -223,8 +222,8 @@ orderly_more entries e orderly may turn = record {
           | inr other ↦ in_order_same entries _ id (data_of_others entries e id other.0) was
         ]
 
-pub orderly_none : IsOrderly []
-unfolding opened_ids info_of stream_of published_count
+pub orderly_none : {X : Type 0} → IsOrderly {X = X} []
+unfolding opened_ids info_of published_of published_count
 orderly_none = record {
   ids = refl;
   unborn = λ id above. record { info = refl; ended = refl; sealed = refl };

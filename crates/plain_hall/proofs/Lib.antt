@@ -1,8 +1,17 @@
 pub mod Calls
+pub mod Counting
+pub mod Exchanging
 pub mod Finding
 pub mod Found
+pub mod Keeping
 pub mod Legal
+pub mod OpenRoots
 pub mod Passes
+pub mod Publishing
 pub mod Ranges
+pub mod SampleStakes
+pub mod SampleTracks
 pub mod Samples
 pub mod Steps
+pub mod Told
+pub mod WholeAfter

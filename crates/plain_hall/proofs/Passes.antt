@@ -12,13 +12,12 @@ use Rattle.std.proofs.lemmas.List.Folds.{list_any-append}
 use Rattle.std.proofs.lemmas.List.Sums.{sum_by-append}
 use Rattle.std.proofs.lemmas.Bool.{eq-eqb}
 use Rattle.trace_base.specs.declared.names.TraceInfo.{TraceInfo}
-use Rattle.trace_base.specs.declared.stream.TrackStream.{TrackStream}
-use Rattle.hall_trait.specs.History.{Entry, Opened, Published, Sealed, Dropped, Asked, seals, ends}
-use Rattle.hall_trait.specs.History.{opened_ids, info_of, is_open, is_loading, open_ids, tracks_of}
-use Rattle.hall_trait.specs.History.{published_count, promised}
+use Rattle.node_key.specs.History.{EntryOf, Opened, Published, Sealed, Dropped, Asked, seals, ends}
+use Rattle.node_key.specs.History.{opened_ids, info_of, is_open, is_loading, open_ids, tracks_of}
+use Rattle.node_key.specs.History.{published_count, promised}
 use Rattle.plain_hall.specs.Loading.{loading_ids, pass_of, passes_of}
 use Rattle.plain_hall.specs.Orderly.{IsOrderly}
-use Rattle.hall_trait.specs.Seat.{PassView, Adds, Removes, Replaces}
+use Rattle.node_key.specs.Seat.{PassView, Adds, Removes, Replaces}
 use Rattle.plain_hall.proofs.Legal.{open_within, loading_open}
 use Rattle.hall_trait.proofs.More.{SameData, SameFate, subject, opened_more, info_more, count_more, any_more}
 use Rattle.hall_trait.proofs.More.{or_false, data_of_others, fate_of_others, data_asked, fate_asked}
@@ -27,23 +26,23 @@ use Rattle.plain_hall.proofs.Ranges.{Lacks, AgreeBut, Around, filters_around, ma
 use Rattle.plain_hall.proofs.Ranges.{range_below, Lacks-filter}
 
 -- the places that are promised to the trace, if it is loading
-abbrev pub promise_of : List Entry → ℕ → ℕ
+abbrev pub promise_of : {X : Type 0} → List (EntryOf X) → ℕ → ℕ
 promise_of entries id = tracks_of entries id - published_count entries id + 1
 
 -- the histories agree on all traces but one
-pub record AgreeOnOthers (old new : List Entry) (id : ℕ) : Type 0 where
+pub record AgreeOnOthers {X : Type 0} (old new : List (EntryOf X)) (id : ℕ) : Type 0 where
   pub opens : AgreeBut id (is_open old) (is_open new)
   pub loads : AgreeBut id (is_loading old) (is_loading new)
   pub passes : AgreeBut id (pass_of old) (pass_of new)
   pub promises : AgreeBut id (promise_of old) (promise_of new)
 
-pass_same : (old new : List Entry) (id : ℕ) → SameData old new id → pass_of new id ≡ pass_of old id
+pass_same : {X : Type 0} → (old new : List (EntryOf X)) (id : ℕ) → SameData old new id → pass_of new id ≡ pass_of old id
 pass_same old new id same = rw (same.count, tracks_same old new id same) refl
 
-promise_same : (old new : List Entry) (id : ℕ) → SameData old new id → promise_of new id ≡ promise_of old id
+promise_same : {X : Type 0} → (old new : List (EntryOf X)) (id : ℕ) → SameData old new id → promise_of new id ≡ promise_of old id
 promise_same old new id same = rw (same.count, tracks_same old new id same) refl
 
-others_agree : (entries : List Entry) (e : Entry) → AgreeOnOthers entries (entries ++ e ∷ []) (subject e)
+pub others_agree : {X : Type 0} → (entries : List (EntryOf X)) (e : EntryOf X) → AgreeOnOthers entries (entries ++ e ∷ []) (subject e)
 others_agree entries e = record {
   opens = λ x ne. open_same entries _ x (data_of_others entries e x ne) (fate_of_others entries e x ne);
   loads = λ x ne. loading_same entries _ x (data_of_others entries e x ne) (fate_of_others entries e x ne);
@@ -52,7 +51,7 @@ others_agree entries e = record {
 }
 
 -- the loading traces before and after, around one of them
-loads_around : (old new : List Entry) (id : ℕ) → IsOrderly old → opened_ids new ≡ opened_ids old
+loads_around : {X : Type 0} → (old new : List (EntryOf X)) (id : ℕ) → IsOrderly old → opened_ids new ≡ opened_ids old
     → AgreeOnOthers old new id → is_open old id ≡ true → Around (is_loading old) (is_loading new) id
     (opened_ids old)
 loads_around old new id orderly ids agree on =
@@ -60,24 +59,24 @@ loads_around old new id orderly ids agree on =
     rw orderly.ids (filters_around (is_loading old) (is_loading new) id (length (opened_ids old)) agree.loads
     within.0 within.1)
 
-loading_same_by : (old new : List Entry) (id : ℕ) → opened_ids new ≡ opened_ids old → SameFate old new id
+loading_same_by : {X : Type 0} → (old new : List (EntryOf X)) (id : ℕ) → opened_ids new ≡ opened_ids old → SameFate old new id
     → is_loading new id ≡ is_loading old id
 unfolding is_loading is_open
 loading_same_by old new id ids fate = rw (ids, fate.ended, fate.sealed) refl
 
-open_same_by : (old new : List Entry) (id : ℕ) → opened_ids new ≡ opened_ids old
+pub open_same_by : {X : Type 0} → (old new : List (EntryOf X)) (id : ℕ) → opened_ids new ≡ opened_ids old
     → list_any (ends id) new ≡ list_any (ends id) old → is_open new id ≡ is_open old id
 unfolding is_open
 open_same_by old new id ids ended = rw (ids, ended) refl
 
 -- nothing changes
-pub record KeepsAll (old new : List Entry) : Type 0 where
+pub record KeepsAll {X : Type 0} (old new : List (EntryOf X)) : Type 0 where
   pub passes : passes_of new ≡ passes_of old
   pub promises : promised new ≡ promised old
   pub opens : length (open_ids new) ≡ length (open_ids old)
   pub ids : opened_ids new ≡ opened_ids old
 
-pub asked_keeps : (entries : List Entry) → KeepsAll entries (entries ++ Asked ∷ [])
+pub asked_keeps : {X : Type 0} → (entries : List (EntryOf X)) → KeepsAll entries (entries ++ Asked ∷ [])
 unfolding promised open_ids
 asked_keeps entries =
     let new = entries ++ Asked ∷ [] in
@@ -109,13 +108,13 @@ map_mid f front id back = map-append f (front ++ id ∷ []) back ∙ ap (λ xs. 
     (map-append f front (id ∷ [])) ∙ append_assoc (map f front) (f id ∷ []) (map f back)
 
 -- One pass goes on, with one promised place fewer.
-pub record GoesOn (old new : List Entry) (id : ℕ) : Type 0 where
+pub record GoesOn {X : Type 0} (old new : List (EntryOf X)) (id : ℕ) : Type 0 where
   pub passes : Replaces (passes_of old) (passes_of new) (pass_of old id) (pass_of new id)
   pub promises : promised old + promise_of new id ≡ promised new + promise_of old id
   pub opens : length (open_ids new) ≡ length (open_ids old)
   pub ids : opened_ids new ≡ opened_ids old
 
-pub published_goes_on : (entries : List Entry) (id track : ℕ) (s : TrackStream) → IsOrderly entries
+pub published_goes_on : {X : Type 0} → (entries : List (EntryOf X)) (id track : ℕ) (s : X) → IsOrderly entries
     → is_loading entries id ≡ true → GoesOn entries (entries ++ Published id track s ∷ []) id
 unfolding promised open_ids
 published_goes_on entries id track s orderly loading =
@@ -159,12 +158,12 @@ published_goes_on entries id track s orderly loading =
     }
 
 -- One pass is gone, with the places promised to its trace.
-pub record Ends (old new : List Entry) (id : ℕ) : Type 0 where
+pub record Ends {X : Type 0} (old new : List (EntryOf X)) (id : ℕ) : Type 0 where
   pub passes : Removes (passes_of old) (passes_of new) (pass_of old id)
   pub promises : promised old ≡ promised new + promise_of old id
   pub ids : opened_ids new ≡ opened_ids old
 
-ends_by : (old new : List Entry) (id : ℕ) → IsOrderly old → is_loading old id ≡ true
+ends_by : {X : Type 0} → (old new : List (EntryOf X)) (id : ℕ) → IsOrderly old → is_loading old id ≡ true
     → is_loading new id ≡ false → opened_ids new ≡ opened_ids old → AgreeOnOthers old new id → Ends old new id
 unfolding promised
 ends_by old new id orderly loading ended ids agree =
@@ -208,7 +207,7 @@ pub and_not : (a b : Bool) → b ≡ true → (a && not b) ≡ false
 and_not true b e = ap not e
 and_not false b e = refl
 
-pub sealed_ends : (entries : List Entry) (id : ℕ) → IsOrderly entries → is_loading entries id ≡ true
+pub sealed_ends : {X : Type 0} → (entries : List (EntryOf X)) (id : ℕ) → IsOrderly entries → is_loading entries id ≡ true
     → Ends entries (entries ++ Sealed id ∷ []) id
 unfolding is_loading
 sealed_ends entries id orderly loading =
@@ -219,7 +218,7 @@ sealed_ends entries id orderly loading =
     (opened_more entries (Sealed id) ∙ append-nil _) (others_agree entries (Sealed id))
 
 -- a sealed trace stays open
-pub sealed_opens : (entries : List Entry) (id : ℕ) → length (open_ids (entries ++ Sealed id ∷ [])) ≡ length
+pub sealed_opens : {X : Type 0} → (entries : List (EntryOf X)) (id : ℕ) → length (open_ids (entries ++ Sealed id ∷ [])) ≡ length
     (open_ids entries)
 unfolding open_ids
 sealed_opens entries id =
@@ -229,13 +228,13 @@ sealed_opens entries id =
     fun_ext (λ x. open_same_by entries new x ids (any_more (ends x) entries (Sealed id) ∙ or_false _)) in
     ap length (ap₂ filter opens ids)
 
-dropped_closed : (entries : List Entry) (id : ℕ) → is_open (entries ++ Dropped id ∷ []) id ≡ false
+pub dropped_closed : {X : Type 0} → (entries : List (EntryOf X)) (id : ℕ) → is_open (entries ++ Dropped id ∷ []) id ≡ false
 unfolding is_open
 dropped_closed entries id = and_not (list_any (λ other. eqb other id)
     (opened_ids (entries ++ Dropped id ∷ []))) _ (any_more (ends id) entries (Dropped id) ∙ or_true _ _
     (eq-eqb id id refl))
 
-pub dropped_ends : (entries : List Entry) (id : ℕ) → IsOrderly entries → is_loading entries id ≡ true
+pub dropped_ends : {X : Type 0} → (entries : List (EntryOf X)) (id : ℕ) → IsOrderly entries → is_loading entries id ≡ true
     → Ends entries (entries ++ Dropped id ∷ []) id
 unfolding is_loading
 dropped_ends entries id orderly loading =
@@ -244,7 +243,7 @@ dropped_ends entries id orderly loading =
     (ap (λ b. b && not (list_any (seals id) new)) (dropped_closed entries id))
     (opened_more entries (Dropped id) ∙ append-nil _) (others_agree entries (Dropped id))
 
-pub dropped_opens : (entries : List Entry) (id : ℕ) → IsOrderly entries → is_loading entries id ≡ true
+pub dropped_opens : {X : Type 0} → (entries : List (EntryOf X)) (id : ℕ) → IsOrderly entries → is_loading entries id ≡ true
     → length (open_ids entries) ≡ length (open_ids (entries ++ Dropped id ∷ [])) + 1
 unfolding open_ids
 dropped_opens entries id orderly loading =
@@ -272,7 +271,7 @@ dropped_opens entries id orderly loading =
     )
 
 -- One trace is opened, and a pass over its tracks is added.
-pub record Opens (old new : List Entry) (id : ℕ) (info : TraceInfo) : Type 0 where
+pub record Opens {X : Type 0} (old new : List (EntryOf X)) (id : ℕ) (info : TraceInfo) : Type 0 where
   pub told : info_of new id ≡ Some info
   pub count : published_count new id ≡ 0
   pub passes : Adds (passes_of old) (passes_of new) (pass_of new id)
@@ -280,7 +279,7 @@ pub record Opens (old new : List Entry) (id : ℕ) (info : TraceInfo) : Type 0 w
   pub opens : length (open_ids new) ≡ length (open_ids old) + 1
   pub ids : opened_ids new ≡ opened_ids old ++ id ∷ []
 
-opened_on : (entries : List Entry) (id : ℕ) (info : TraceInfo) → IsOrderly entries
+opened_on : {X : Type 0} → (entries : List (EntryOf X)) (id : ℕ) (info : TraceInfo) → IsOrderly entries
     → length (opened_ids entries) < id → is_open (entries ++ Opened id info ∷ []) id ≡ true
 unfolding is_open
 opened_on entries id info orderly above =
@@ -293,7 +292,7 @@ opened_on entries id info orderly above =
     (λ b. b || false) (orderly.unborn id above).ended in
     ap₂ (λ a b. a && not b) among on
 
-opened_loads : (entries : List Entry) (id : ℕ) (info : TraceInfo) → IsOrderly entries
+opened_loads : {X : Type 0} → (entries : List (EntryOf X)) (id : ℕ) (info : TraceInfo) → IsOrderly entries
     → length (opened_ids entries) < id → is_loading (entries ++ Opened id info ∷ []) id ≡ true
 unfolding is_loading
 opened_loads entries id info orderly above =
@@ -312,7 +311,13 @@ unborn_count : (o : Option TraceInfo) (n : ℕ) → is_some o ≡ false
 unborn_count None n e le = omega arith
 unborn_count (Some other) n e le = absurd cc
 
-pub opened_opens : (entries : List Entry) (id : ℕ) (info : TraceInfo) → IsOrderly entries
+-- of a trace that isn't opened yet nothing is published
+pub unpublished_yet : {X : Type 0} → (entries : List (EntryOf X)) (id : ℕ) (info : TraceInfo) → IsOrderly entries
+    → id ≡ length (opened_ids entries) + 1 → published_count entries id ≡ 0
+unpublished_yet entries id info orderly next =
+    unborn_count (info_of entries id) _ (orderly.unborn id (omega (arith, next))).info (orderly.counted id)
+
+pub opened_opens : {X : Type 0} → (entries : List (EntryOf X)) (id : ℕ) (info : TraceInfo) → IsOrderly entries
     → id ≡ length (opened_ids entries) + 1 → Opens entries (entries ++ Opened id info ∷ []) id info
 unfolding promised open_ids
 opened_opens entries id info orderly next =
@@ -359,7 +364,7 @@ opened_opens entries id info orderly next =
     }
 
 -- a pass of the seat is that of a loading trace
-pub has_loading : (entries : List Entry) (view : PassView) → Contains (passes_of entries) view
+pub has_loading : {X : Type 0} → (entries : List (EntryOf X)) (view : PassView) → Contains (passes_of entries) view
     → (is_loading entries view.id ≡ true) × (pass_of entries view.id ≡ view)
 has_loading entries view has =
     let ids = loading_ids entries in

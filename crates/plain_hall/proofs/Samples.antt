@@ -1,19 +1,13 @@
 -- What the tests need of their small traces and of a load that is alone.
-use Rattle.std.proofs.Common.{◌≡◌, ℕ, ◌+◌, ◌≤◌, List, [], ◌∷◌, ◌++◌, length, get_or, take, Some, refl, sym}
+use Rattle.std.proofs.Common.{◌≡◌, ℕ, ◌+◌, List, [], ◌∷◌, ◌++◌, length, get_or, Some}
 use Rattle.std.proofs.Common.{ap}
-use Rattle.std.proofs.Common.{◌∙◌, arith, suc, zero, subst, length-append, Contains, lit≤}
-use Rattle.std.specs.Prelude.{slice_get}
-use Rattle.std.specs.List.Sorted.{IsNonDecreasing}
+use Rattle.std.proofs.Common.{◌∙◌, arith, length-append, Contains}
 use Rattle.std.specs.Option.{option_map_or}
 use Rattle.std.proofs.lemmas.List.{nil_from_length}
 use Rattle.std.proofs.Math.Seq.{get_or-append_seam}
-use Rattle.trace_base.specs.Info.{Fits}
-use Rattle.trace_base.specs.Stream.{IsLegal, stack_after}
 use Rattle.trace_base.specs.declared.names.TraceInfo.{TraceInfo}
-use Rattle.trace_base.specs.declared.stream.Event.{Event}
-use Rattle.trace_base.specs.declared.stream.TrackStream.{TrackStream}
-use Rattle.hall_trait.specs.History.{Entry, Published, info_of, tracks_of}
-use Rattle.hall_trait.specs.Seat.{Adds, Becomes, Removes, Replaces}
+use Rattle.node_key.specs.History.{Entry, Published, PublishedTree, info_of, tracks_of}
+use Rattle.node_key.specs.Seat.{Adds, Becomes, Removes, Replaces}
 use Rattle.hall_trait.proofs.More.{info_more, or_none}
 
 -- an added pass is there, and one in place of another
@@ -68,7 +62,7 @@ none_left_at_once none one rest x empty adds removes =
     ))
 
 -- a publication leaves the number of tracks
-pub tracks_stay : (old new : List Entry) (id track : ℕ) (s : TrackStream) (info : TraceInfo) → new ≡ old
+pub tracks_stay : (old new : List Entry) (id track : ℕ) (s : PublishedTree) (info : TraceInfo) → new ≡ old
     ++ Published id track s ∷ [] → info_of old id ≡ Some info → tracks_of new id ≡ length info.names.tracks
 tracks_stay old new id track s info seen told =
     ap (λ o. option_map_or (λ (i : TraceInfo). length i.names.tracks) o 0)

@@ -9,14 +9,14 @@ use Rattle.std.proofs.lemmas.Bool.{eq-eqb}
 use Rattle.trace_base.specs.Info.{IsLegalInfo}
 use Rattle.trace_base.specs.declared.limits.TheConstants.{MAX_OPEN_TRACES, MAX_PLACES}
 use Rattle.trace_base.specs.declared.names.TraceInfo.{TraceInfo}
-use Rattle.trace_base.specs.declared.stream.TrackStream.{TrackStream}
 use Rattle.hall_trait.specs.Answers.{HasRoom, places_of_load}
-use Rattle.hall_trait.specs.History.{Entry, Opened, Published, Sealed, Dropped, Asked, opened_id, opened_ids}
-use Rattle.hall_trait.specs.History.{open_ids, info_of, is_loading, tracks_of, published_count}
-use Rattle.hall_trait.specs.History.{promised, FitsTrack, MayFollow}
+use Rattle.node_key.specs.History.{Entry, Opened, Published, Sealed, Dropped, Asked, opened_id, opened_ids}
+use Rattle.node_key.specs.History.{open_ids, info_of, is_loading, tracks_of, published_count}
+use Rattle.node_key.specs.History.{promised, IsTrackTree, MayFollow, PublishedTree}
 use Rattle.plain_hall.specs.Kept.{IsKept}
 use Rattle.plain_hall.specs.PlainSeat.{plain_seat}
-use Rattle.hall_trait.specs.Seat.{PinView, MakesEntry}
+use Rattle.node_key.specs.Seat.{PinView, MakesEntry}
+use Rattle.node_key.specs.Stakes.{Stake}
 use Rattle.plain_hall.proofs.Found.{not_published}
 use Rattle.hall_trait.proofs.Legal.{legal_more}
 use Rattle.plain_hall.proofs.Legal.{orderly_more, orderly_none, range_more}
@@ -25,9 +25,9 @@ use Rattle.plain_hall.proofs.Passes.{promise_of, asked_keeps, published_goes_on,
 use Rattle.plain_hall.proofs.Passes.{dropped_ends, dropped_opens, opened_opens}
 
 -- an entry is made
-pub makes : (old new : List Entry) (pins now : List PinView) (e : Entry) (place : ℕ) → new ≡ old ++ e ∷ []
-    → place ≡ length new → MakesEntry true (plain_seat old pins) (plain_seat new now) e place
-makes old new pins now e place seen last =
+pub makes : (stakes left : List Stake) (old new : List Entry) (pins now : List PinView) (e : Entry) (place : ℕ) → new ≡ old ++ e ∷ []
+    → place ≡ length new → MakesEntry true (plain_seat stakes old pins) (plain_seat left new now) e place
+makes stakes left old new pins now e place seen last =
     let n : length new ≡ length old + 1 = ap length seen ∙ length-append old (e ∷ []) in
     let next : place ≡ 1 + length old = omega arith in
     record {
@@ -81,29 +81,30 @@ pub owes : (old : List Entry) (owed live id : ℕ) → IsKept old owed live
 owes old owed live id was loading =
     omega (arith, was.promises, (sealed_ends old id was.orderly loading).promises)
 
-pub kept_published : (old new : List Entry) (owed live id track : ℕ) (s : TrackStream) → new ≡ old
-    ++ Published id track s ∷ [] → is_loading old id ≡ true → FitsTrack old id track s
+pub kept_published : (old new : List Entry) (owed live id track : ℕ) (p : PublishedTree) → new ≡ old
+    ++ Published id track p ∷ [] → is_loading old id ≡ true → IsTrackTree old id track p
     → track ≡ published_count old id → IsKept old owed live → IsKept new (owed - 1) live
-kept_published old new owed live id track s seen loading fits turn was =
+kept_published old new owed live id track p seen loading of_stream turn was =
+    let fits = of_stream.1 in
     let none = not_published old id track was.orderly (omega arith) in
-    let may : MayFollow old (Published id track s) = (loading, none, fits) in
-    let on = published_goes_on old id track s was.orderly loading in
-    let added = old ++ Published id track s ∷ [] in
-    let count : published_count added id ≡ published_count old id + 1 = count_more old (Published id track s)
+    let may : MayFollow old (Published id track p) = (loading, none, of_stream) in
+    let on = published_goes_on old id track p was.orderly loading in
+    let added = old ++ Published id track p ∷ [] in
+    let count : published_count added id ≡ published_count old id + 1 = count_more old (Published id track p)
     id ∙ ap (λ b. published_count old id + cond b 1 0) (eq-eqb id id refl) in
     let tracks : tracks_of added id ≡ tracks_of old id =
     ap (λ o. option_map_or (λ (i : TraceInfo). length i.names.tracks) o 0)
-    (info_more old (Published id track s) id ∙ or_none _) in
+    (info_more old (Published id track p) id ∙ or_none _) in
     let told : tracks_of old id ≡ length fits.0.names.tracks = told_tracks (info_of old id) fits.0 fits.1 in
     let below : track < length fits.0.names.tracks = fits.2 in
     let fewer : promised old ≡ promised added + 1 = omega (arith, on.promises) in
     subst (λ (es : List Entry). IsKept es (owed - 1) live) (sym seen) (record {
-      legal = legal_more old (Published id track s) was.legal may;
-      orderly = orderly_more old (Published id track s) was.orderly may turn;
+      legal = legal_more old (Published id track p) was.legal may;
+      orderly = orderly_more old (Published id track p) was.orderly may turn;
       promises = omega (arith, was.promises);
       held = was.held ∙ sym on.opens;
       few = was.few;
-      fits = omega (arith, was.promises, was.fits, length-append old (Published id track s ∷ []));
+      fits = omega (arith, was.promises, was.fits, length-append old (Published id track p ∷ []));
     })
 
 pub kept_sealed : (old new : List Entry) (owed live id : ℕ) → new ≡ old ++ Sealed id ∷ []

@@ -4,27 +4,29 @@ use Rattle.std.specs.List.{flat_map}
 use Rattle.std.specs.Arc.{arc_value}
 use Rattle.std.proofs.Props.{props}
 use Rattle.trace_base.specs.declared.limits.TheConstants.{MAX_OPEN_TRACES, MAX_PLACES}
-use Rattle.hall_trait.specs.History.{Entry, Opened, Published, Sealed, Dropped, Asked, IsLegalHistory}
-use Rattle.hall_trait.specs.History.{open_ids, promised}
+use Rattle.node_key.specs.History.{Entry, EntryOf, Opened, Published, Sealed, Dropped, Asked}
+use Rattle.node_key.specs.History.{IsLegalHistory}
+use Rattle.node_key.specs.History.{open_ids, promised}
 use Rattle.hall_trait.proofs.HistoryProps.{IsLegalHistory-prop}
 use Rattle.plain_hall.specs.Orderly.{IsOrderly}
 use Rattle.plain_hall.specs.declared.kept_entry.HistoryEntry.{HistoryEntry}
 use Rattle.plain_hall.specs.declared.kept_entry.HistoryEntry.TheVariants as kept
 use Rattle.plain_hall.specs.declared.kept_entry.KeptEntry.{KeptEntry}
+use Rattle.plain_hall.specs.declared.root.Root.{Root}
 
 -- the entry that is kept
-abbrev pub entry_of : HistoryEntry → Entry
+abbrev pub entry_of : HistoryEntry → EntryOf Root
 entry_of (kept.Opened id info) = Opened id (arc_value info)
-entry_of (kept.Published id track stream) = Published id track stream
+entry_of (kept.Published id track root) = Published id track root
 entry_of (kept.Sealed id) = Sealed id
 entry_of (kept.Dropped id) = Dropped id
 
 -- the questions before it, and the entry
-abbrev pub block_of : KeptEntry → List Entry
+abbrev pub block_of : KeptEntry → List (EntryOf Root)
 block_of kept = replicate kept.asked Asked ++ entry_of kept.entry ∷ []
 
 -- the history that is kept, with so many questions at its end
-abbrev pub entries_of : List KeptEntry → ℕ → List Entry
+abbrev pub entries_of : List KeptEntry → ℕ → List (EntryOf Root)
 entries_of kept asked = flat_map block_of kept ++ replicate asked Asked
 
 -- a legal history with these numbers of the places that are promised and of the traces that are open

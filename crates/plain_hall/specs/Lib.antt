@@ -1,9 +1,12 @@
 pub mod FoundHistory
+pub mod HallLaws
 pub mod Kept
 pub mod KeptHistory
 pub mod Loading
 pub mod Orderly
 pub mod PlainHall
 pub mod PlainSeat
-pub mod RoomLaw
+pub mod Rooted
 pub mod Spots
+pub mod StoreProps
+pub mod Whole

@@ -1,15 +1,15 @@
 -- The passes over the loading traces of a history, one each.
 use Rattle.std.specs.Prelude.{ℕ, List, map, filter}
-use Rattle.hall_trait.specs.History.{Entry, opened_ids, is_loading, tracks_of, published_count}
+use Rattle.node_key.specs.History.{EntryOf, opened_ids, is_loading, tracks_of, published_count}
 use Rattle.hall_trait.specs.Pass.{state_at}
-use Rattle.hall_trait.specs.Seat.{PassView}
+use Rattle.node_key.specs.Seat.{PassView}
 
 -- the ids of the loading traces, in order
-abbrev pub loading_ids : List Entry → List ℕ
+abbrev pub loading_ids : {X : Type 0} → List (EntryOf X) → List ℕ
 loading_ids entries = filter (is_loading entries) (opened_ids entries)
 
 -- the pass over all tracks of the trace, of which the first are published
-abbrev pub pass_of : List Entry → ℕ → PassView
+abbrev pub pass_of : {X : Type 0} → List (EntryOf X) → ℕ → PassView
 pass_of entries id = record {
   id = id;
   from = 0;
@@ -18,5 +18,5 @@ pass_of entries id = record {
 }
 
 -- the passes over the loading traces
-abbrev pub passes_of : List Entry → List PassView
+abbrev pub passes_of : {X : Type 0} → List (EntryOf X) → List PassView
 passes_of entries = map (pass_of entries) (loading_ids entries)

@@ -1,11 +1,19 @@
 -- What a plain hall is to its owner.
-use Rattle.std.specs.Prelude.{map}
+use Rattle.std.specs.Prelude.{List, map}
 use Rattle.std.specs.Option.{option_to_list}
+use Rattle.node_key.specs.History.{Entry}
+use Rattle.node_key.specs.Seat.{Seat}
+use Rattle.node_store.specs.Given.{ever, stakes_of}
 use Rattle.plain_hall.specs.FoundHistory.{entries}
 use Rattle.plain_hall.specs.PlainSeat.{plain_seat, kept_view}
-use Rattle.hall_trait.specs.Seat.{Seat}
+use Rattle.plain_hall.specs.Rooted.{with_trees}
 use Rattle.plain_hall.specs.declared.hall.PlainHall.{PlainHall}
+
+-- its history
+abbrev pub seen_by : PlainHall → List Entry
+seen_by hall = with_trees (ever hall.nodes.given) (entries hall.past)
 
 -- its seat
 abbrev pub seat_of : PlainHall → Seat
-seat_of hall = plain_seat (entries hall.past) (map kept_view (option_to_list hall.pin))
+seat_of hall = plain_seat (stakes_of hall.nodes.given) (seen_by hall)
+    (map kept_view (option_to_list hall.pin))

@@ -1,15 +1,17 @@
 -- The seat of a hall with one owner.
 use Rattle.std.specs.Prelude.{◌≤◌, List, length, take, IsSome}
 use Rattle.std.specs.List.{range_with_len}
-use Rattle.hall_trait.specs.History.{Entry, info_of}
+use Rattle.node_key.specs.History.{Entry, EntryOf, info_of}
 use Rattle.plain_hall.specs.Loading.{passes_of}
 use Rattle.hall_trait.specs.Pin.{first_id, second_id}
-use Rattle.hall_trait.specs.Seat.{Seat, PinView}
+use Rattle.node_key.specs.Seat.{Seat, PinView}
+use Rattle.node_key.specs.Stakes.{Stake}
 use Rattle.plain_hall.specs.declared.kept_pin.KeptPin.{KeptPin}
 
 -- Each entry is the seat's own, and each loading trace has one pass.
-abbrev pub plain_seat : List Entry → List PinView → Seat
-plain_seat entries pins = record {
+abbrev pub plain_seat : List Stake → List Entry → List PinView → Seat
+plain_seat stakes entries pins = record {
+  stakes = stakes;
   pins = pins;
   passes = passes_of entries;
   seen = entries;
@@ -21,7 +23,7 @@ abbrev pub kept_view : KeptPin → PinView
 kept_view pin = record { ids = pin.ids; place = pin.place }
 
 -- the pin's traces were opened by its place
-pub record IsHeld (entries : List Entry) (pin : KeptPin) : Type 0 where
+pub record IsHeld {X : Type 0} (entries : List (EntryOf X)) (pin : KeptPin) : Type 0 where
   pub place : pin.place ≤ length entries
   pub first : IsSome (info_of (take pin.place entries) (first_id pin.ids))
   pub second : IsSome (info_of (take pin.place entries) (second_id pin.ids))

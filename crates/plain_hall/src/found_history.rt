@@ -3,10 +3,11 @@ ghost use Rattle.plain_hall.specs.Spots.{AreSpots, AreSpots-prop};
 
 use crate::kept_entry::HistoryEntry;
 use crate::kept_history::KeptHistory;
+use crate::root::Root;
 use crate::spots::{TraceSpot, TrackSpot};
 use std::alloc::Global;
 use std::sync::Arc;
-use trace_base::{Memory, TraceInfo, TrackStream};
+use trace_base::{Memory, TraceInfo};
 
 /// A history in which a trace is found by its id and a track by its number. Its traces have the ids 1, 2 and
 /// so on, and the tracks of each are published in order.
@@ -26,11 +27,12 @@ impl FoundHistory {
     ghost use Rattle.std.specs.Option.{option_copied, option_map};
     ghost use Rattle.std.specs.Vec.{vec_len, vec_capacity};
     ghost use Rattle.trace_base.specs.declared.limits.TheConstants.{MAX_PLACES};
-    ghost use Rattle.hall_trait.specs.History.{Opened, Published, Sealed, Dropped, Asked, info_of, stream_of};
-    ghost use Rattle.hall_trait.specs.History.{is_open, published_count, tracks_of, opened_ids};
+    ghost use Rattle.node_key.specs.History.{Opened, Published, Sealed, Dropped, Asked, info_of};
+    ghost use Rattle.node_key.specs.History.{published_of};
+    ghost use Rattle.node_key.specs.History.{is_open, published_count, tracks_of, opened_ids};
     ghost use Rattle.plain_hall.specs.FoundHistory.{entries, HasSpaceFor};
     ghost use Rattle.plain_hall.specs.Orderly.{IsOrderly};
-    ghost use Rattle.plain_hall.specs.Spots.{spot_of};
+    ghost use Rattle.plain_hall.specs.Spots.{all_published, roots_at, spot_of};
 
     /// The empty history. It takes no memory.
     pub fn new(alloc: Global) -> FoundHistory
@@ -99,22 +101,21 @@ impl FoundHistory {
     }
 
     /// Publishes the next track of a trace that was opened, and answers the place of that entry.
-    pub fn push_published(&mut self, id: u64, track: u32, stream: TrackStream) -> u64
+    pub fn push_published(&mut self, id: u64, track: u32, root: Root) -> u64
         requires space { HasSpaceFor self.old 1 }
         requires fits { length (entries self.old) < MAX_PLACES }
         requires given { (1 ≤ id) × (id ≤ length (opened_ids (entries self.old))) }
         requires turn { track ≡ published_count (entries self.old) id }
         requires below { track < tracks_of (entries self.old) id }
-        requires fresh { stream_of (entries self.old) id track ≡ None }
-        ensures seen { entries self.new ≡ entries self.old ++ Published id track stream ∷ [] }
+        requires fresh { published_of (entries self.old) id track ≡ None }
+        ensures seen { entries self.new ≡ entries self.old ++ Published id track root ∷ [] }
         ensures place { result ≡ length (entries self.new) }
         ensures space { (n : ℕ) → HasSpaceFor self.old (n + 1) → HasSpaceFor self.new n }
     {
-        let at = self.past.count();
-        let place = self.past.push(HistoryEntry::Published(id, track, stream));
+        let place = self.past.push(HistoryEntry::Published(id, track, root));
         self.spots[(id - 1) as usize]
             .tracks
-            .push_reserved(TrackSpot { at, place });
+            .push_reserved(TrackSpot { root, place });
         place
     }
 
@@ -190,22 +191,24 @@ impl FoundHistory {
         }
     }
 
-    /// The stream that was published as this track of the trace, as of a place.
-    pub fn stream(&self, place: u64, id: u64, track: u32) -> Option<&TrackStream>
+    /// The spots of the trace's published tracks.
+    pub fn tracks(&self, id: u64) -> &[TrackSpot]
+        requires { (1 ≤ id) × (id ≤ length (opened_ids (entries self.now))) }
+        ensures { roots_at result.now ≡ all_published (entries self.now) id }
+    {
+        &self.spots[(id - 1) as usize].tracks
+    }
+
+    /// The root that was published as this track of the trace, as of a place.
+    pub fn root(&self, place: u64, id: u64, track: u32) -> Option<Root>
         requires { IsOrderly (entries self.now) }
-        ensures { option_copied result ≡ stream_of (take place (entries self.now)) id track }
+        ensures { result ≡ published_of (take place (entries self.now)) id track }
     {
         let Some(spot) = self.spot(id) else {
             return None;
         };
         match spot.tracks.get(track as usize) {
-            Some(t) => {
-                if place < t.place {
-                    None
-                } else {
-                    self.past.stream_at(t.at, id, track)
-                }
-            }
+            Some(t) => { if place < t.place { None } else { Some(t.root) } }
             None => None,
         }
     }

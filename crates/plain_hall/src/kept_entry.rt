@@ -1,20 +1,21 @@
 ghost use Rattle.std.specs.Prelude.{◌≡◌};
 ghost use Rattle.std.specs.Arc.{arc_value};
 ghost use Rattle.std.specs.Option.{option_copied, option_map};
-ghost use Rattle.hall_trait.specs.History.{ends, info_opened, stream_published};
+ghost use Rattle.node_key.specs.History.{ends, info_opened};
 ghost use Rattle.plain_hall.specs.Kept.{entry_of};
 
+use crate::root::Root;
 use std::alloc::Global;
 use std::sync::Arc;
-use trace_base::{TraceInfo, TrackStream};
+use trace_base::TraceInfo;
 
 /// An entry of a plain hall's history that carries something.
 #[derive(Drop)]
 pub enum HistoryEntry {
     /// This trace was opened, with these names and messages.
     Opened(u64, Arc<TraceInfo, Global>),
-    /// This track of it was published, with this stream.
-    Published(u64, u32, TrackStream),
+    /// This track of it was published, with this root.
+    Published(u64, u32, Root),
     /// All of it was sealed.
     Sealed(u64),
     /// Its loading was dropped.
@@ -34,16 +35,6 @@ pub fn info_in(entry: &HistoryEntry, id: u64) -> Option<&Arc<TraceInfo, Global>>
 {
     match entry {
         HistoryEntry::Opened(other, info) if *other == id => Some(info),
-        _ => None,
-    }
-}
-
-/// The stream that the entry publishes as this track of the trace.
-pub fn stream_in(entry: &HistoryEntry, id: u64, track: u32) -> Option<&TrackStream>
-    ensures { option_copied result ≡ stream_published id track (entry_of entry.now) }
-{
-    match entry {
-        HistoryEntry::Published(other, which, s) if *other == id && *which == track => Some(s),
         _ => None,
     }
 }

@@ -1,10 +1,10 @@
 ghost use Rattle.std.specs.Prelude.{◌≡◌, length};
 ghost use Rattle.plain_hall.specs.Kept.{entries_of};
 
-use crate::kept_entry::{HistoryEntry, KeptEntry, info_in, stream_in};
+use crate::kept_entry::{HistoryEntry, KeptEntry, info_in};
 use std::alloc::Global;
 use std::sync::Arc;
-use trace_base::{Memory, TraceInfo, TrackStream};
+use trace_base::{Memory, TraceInfo};
 
 /// The entries of a plain hall's history. A question takes no memory.
 #[derive(Drop)]
@@ -23,7 +23,7 @@ impl KeptHistory {
     ghost use Rattle.std.specs.Option.{option_copied, option_map};
     ghost use Rattle.std.specs.Vec.{vec_len};
     ghost use Rattle.trace_base.specs.declared.limits.TheConstants.{MAX_PLACES};
-    ghost use Rattle.hall_trait.specs.History.{Asked, info_opened, stream_published};
+    ghost use Rattle.node_key.specs.History.{Asked, info_opened};
     ghost use Rattle.plain_hall.specs.Kept.{entry_of};
     ghost use Rattle.plain_hall.specs.KeptHistory.{history, HasSpace};
     ghost use Rattle.plain_hall.specs.Spots.{told_at};
@@ -99,16 +99,6 @@ impl KeptHistory {
     {
         match self.entries.get(at) {
             Some(kept) => info_in(&kept.entry, id),
-            None => None,
-        }
-    }
-
-    /// The stream that the kept entry with this number, counted from 0, publishes as this track.
-    pub fn stream_at(&self, at: usize, id: u64, track: u32) -> Option<&TrackStream>
-        ensures { option_copied result ≡ told_at (stream_published id track) self.now.entries.items at }
-    {
-        match self.entries.get(at) {
-            Some(kept) => stream_in(&kept.entry, id, track),
             None => None,
         }
     }

@@ -3,11 +3,13 @@
 #![tactic(auto)]
 
 mod asked_for;
+mod dropping;
 mod found_history;
 mod hall;
 mod kept_entry;
 mod kept_history;
 mod kept_pin;
+mod root;
 mod spots;
 
 pub use hall::PlainHall;

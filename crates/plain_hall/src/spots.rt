@@ -1,9 +1,10 @@
-/// Where the stream of a published track stands.
+use crate::root::Root;
+
+/// The root of a published track.
 #[derive(Clone, Copy, Drop)]
 pub struct TrackSpot {
-    /// Its entry among those that are kept, counted from 0.
-    pub at: usize,
-    /// The place of that entry, counted from 1.
+    pub root: Root,
+    /// The place of the entry that publishes it, counted from 1.
     pub place: u64,
 }
 

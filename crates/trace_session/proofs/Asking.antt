@@ -6,9 +6,10 @@ use Rattle.trace_base.specs.Flat.{flat}
 use Rattle.trace_base.specs.Outside.{Told}
 use Rattle.trace_base.specs.declared.asks.AskIds.TheVariants.{One}
 use Rattle.hall_trait.specs.Answers.{PinsTraces, TellsUnknown, TellsUsedUp, RecordsUsedUp, RecordsNone}
-use Rattle.hall_trait.specs.History.{Entry, Asked, is_open}
+use Rattle.hall_trait.specs.Answers.{NextsRise}
+use Rattle.node_key.specs.History.{Entry, Asked, is_open}
 use Rattle.hall_trait.specs.Pin.{pin_view}
-use Rattle.hall_trait.specs.Seat.{Seat, PinView, MakesNoEntry, IsAtRest, Removes}
+use Rattle.node_key.specs.Seat.{Seat, PinView, MakesNoEntry, IsAtRest, Removes}
 use Rattle.hall_trait.specs.declared.pin.Pin.{Pin}
 use Rattle.session_proto.specs.declared.reply.No.TheVariants as no
 use Rattle.session_proto.specs.declared.reply.Reply.{Reply}
@@ -22,6 +23,7 @@ use Rattle.trace_session.specs.Serving.{Serves, RecordsReply}
 use Rattle.trace_session.specs.State.{Backend}
 use Rattle.trace_session.proofs.Grow.{Grows-one, Grows-still}
 use Rattle.trace_session.proofs.Loading.{Becomes-one}
+use Rattle.trace_session.proofs.Numbers.{tells_none}
 use Rattle.trace_session.proofs.Opening.{records_none, Serves-still, had_places, used_up_still}
 
 -- as of the last place all is seen
@@ -38,9 +40,10 @@ no_number r old new told is = subst
 -- the trace isn't open
 pub Serves-unknown : (alone : Bool) (old new : Backend) (id a b unknown place : ℕ) → IsAtRest old.seat
     → TellsUnknown alone old.seat new.seat (One id) unknown place → RecordsNone old.used_up new.used_up
+    → NextsRise old.rooms new.rooms
     → Serves alone old new (Line (Flat id All a b)) (reply.No (no.Unknown unknown place))
 unfolding flat_reply
-Serves-unknown alone old new id a b unknown place rest m none =
+Serves-unknown alone old new id a b unknown place rest m none nexts =
     let h = take place new.seat.seen in
     let grows = Grows-one alone old.seat new.seat Asked place m.entered in
     let all : h ≡ new.seat.seen = take_last new.seat.seen place m.entered.last in
@@ -54,17 +57,23 @@ Serves-unknown alone old new id a b unknown place rest m none =
       entries = Asked ∷ [];
       grows = grows;
       answered = (refl, own, had_places alone old.seat.seen new.seat.seen 1 place h grows.seen m.room);
-      rest = record { no_pins = m.pins ∙ rest.no_pins; no_passes = m.passes ∙ rest.no_passes };
+      rest = record {
+        no_stakes = m.stakes ∙ rest.no_stakes;
+        no_pins = m.pins ∙ rest.no_pins;
+        no_passes = m.passes ∙ rest.no_passes;
+      };
       records = records_none old.used_up new.used_up none;
+      nexts = nexts;
+      of_store = tells_none new.rooms (place ∷ []) (reply.No (no.Unknown unknown place)) refl;
     }
 
 -- no place was left
 pub Serves-no_place : (alone : Bool) (old new : Backend) (id a b n : ℕ) → IsAtRest old.seat
     → TellsUsedUp alone old.seat new.seat 1 n → RecordsUsedUp old.used_up new.used_up n
-    → Serves alone old new (Line (Flat id All a b)) (reply.No (no.Spent n))
-Serves-no_place alone old new id a b n rest m told =
+    → NextsRise old.rooms new.rooms → Serves alone old new (Line (Flat id All a b)) (reply.No (no.Spent n))
+Serves-no_place alone old new id a b n rest m told nexts =
     Serves-still alone old new (Line (Flat id All a b)) (reply.No (no.Spent n)) m.same rest
-    (refl, used_up_still alone old.seat new.seat 1 n m) told
+    (refl, used_up_still alone old.seat new.seat 1 n m) told nexts
 
 -- the profile that a pin sees of the trace
 abbrev pub seen_profile : List Entry → ℕ → ℕ → ℕ → ℕ → Reply
@@ -75,11 +84,12 @@ seen_profile seen place id a b = profile_reply (length (streams_of seen id)) (fu
 pub Serves-seen : (alone : Bool) (old new : Backend) (mid : Seat) (id a b : ℕ) (pin : Pin) (r : Reply)
     → IsAtRest old.seat → PinsTraces alone old.seat mid (One id) pin
     → Removes mid.pins new.seat.pins (pin_view pin) → new.seat.passes ≡ mid.passes
-    → MakesNoEntry mid new.seat → RecordsNone old.used_up new.used_up
+    → new.seat.stakes ≡ mid.stakes → MakesNoEntry mid new.seat → RecordsNone old.used_up new.used_up
+    → NextsRise old.rooms new.rooms
     → (r ≡ seen_profile (take pin.place mid.seen) pin.place id a b) ⊎ (r ≡ reply.No no.Memory)
     → Serves alone old new (Line (Flat id All a b)) r
 unfolding flat_reply
-Serves-seen alone old new mid id a b pin r rest m gone passes none told seen =
+Serves-seen alone old new mid id a b pin r rest m gone passes stakes none told nexts seen =
     let h = take pin.place mid.seen in
     let profile = seen_profile h pin.place id a b in
     let all : h ≡ mid.seen = take_last mid.seen pin.place m.entered.last in
@@ -92,6 +102,8 @@ Serves-seen alone old new mid id a b pin r rest m gone passes none told seen =
     let room = had_places alone old.seat.seen mid.seen 1 pin.place h asks.seen m.room in
     let answers : (q : Reply) → Type 0 = λ q. IsAnswered (standing alone mid.seen (length old.seat.seen)
     (pin.place ∷ [])) (Line (Flat id All a b)) q (Asked ∷ []) in
+    let untold : spent_number r ≡ None = ⊎_elim (λ (is : r ≡ profile). ap spent_number is)
+    (λ (is : r ≡ reply.No no.Memory). ap spent_number is) seen in
     record {
       block = pin.place ∷ [];
       entries = Asked ∷ [];
@@ -104,8 +116,9 @@ Serves-seen alone old new mid id a b pin r rest m gone passes none told seen =
         no_pins = Becomes-one (pin_view pin) new.seat.pins []
             (subst (λ (ps : List PinView). Removes ps new.seat.pins (pin_view pin)) pins gone);
         no_passes = passes ∙ m.passes ∙ rest.no_passes;
+        no_stakes = stakes ∙ m.stakes ∙ rest.no_stakes;
       };
-      records = no_number r old.used_up new.used_up told
-          (⊎_elim (λ (is : r ≡ profile). ap spent_number is)
-          (λ (is : r ≡ reply.No no.Memory). ap spent_number is) seen);
+      records = no_number r old.used_up new.used_up told untold;
+      nexts = nexts;
+      of_store = tells_none new.rooms (pin.place ∷ []) r untold;
     }

@@ -3,8 +3,8 @@ use Rattle.std.proofs.Common.{◌≡◌, ◌≢◌, ℕ, Bool, List, [], ◌∷�
 use Rattle.std.proofs.Common.{ap, ◌∙◌, subst, append_assoc}
 use Rattle.std.proofs.lemmas.List.{append-nil}
 use Rattle.trace_base.specs.Outside.{Told}
-use Rattle.hall_trait.specs.History.{IsLegalHistory}
-use Rattle.hall_trait.specs.Seat.{Begins}
+use Rattle.node_key.specs.History.{IsLegalHistory}
+use Rattle.node_key.specs.Seat.{Begins}
 use Rattle.session_proto.specs.Reply.{reply_text}
 use Rattle.session_proto.specs.declared.reply.Reply.{Reply}
 use Rattle.request_reader.proofs.Cutting.{requests_of-append, requests_of-quit, requests_of-none}
@@ -88,6 +88,8 @@ ended end Q alone old now new src pending lies s t none answers leaves writes le
       lone = d.lone;
       rest = d.rest;
       records = d.records;
+      nexts = d.nexts;
+      of_store = d.of_store;
       input = told_pending [] (HasTaken s.served (λ bytes is. (first_request bytes ≡ None) × Q bytes is))
           (λ was is. ReadsRequests end was is s.served) old.left src
           (λ x y p. (p.0 ++ p.1, p.2, answers p.0 p.1 y p.3 p.4.0 p.4.1, leaves p.1 y p.4.1)) joined;
@@ -177,6 +179,8 @@ one_ended end alone old now new src pending lies s t answers leaves writes legal
       lone = d.lone;
       rest = d.rest;
       records = d.records;
+      nexts = d.nexts;
+      of_store = d.of_store;
       input = told_pending pending (HasTaken s.served (λ bytes is. Spells bytes t.request))
           (λ was is. ReadsRequests end was is x) old.left src
           (λ a b p. (

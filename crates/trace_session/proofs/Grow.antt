@@ -4,8 +4,8 @@ use Rattle.std.proofs.Common.{slice_get, Option, Some, refl, sym, ap, ◌∙◌,
 use Rattle.std.proofs.Common.{length-append, append-nil}
 use Rattle.std.proofs.lemmas.List.{length-map}
 use Rattle.std.specs.Bool.{OnTrue}
-use Rattle.hall_trait.specs.History.{Entry}
-use Rattle.hall_trait.specs.Seat.{Seat, Begins, MakesEntry, MakesNoEntry}
+use Rattle.node_key.specs.History.{Entry}
+use Rattle.node_key.specs.Seat.{Seat, Begins, MakesEntry, MakesNoEntry}
 use Rattle.trace_session.specs.Replies.{entry_at}
 use Rattle.trace_session.specs.Served.{AreAt, Rise, last_place}
 use Rattle.trace_session.specs.Serving.{Grows}

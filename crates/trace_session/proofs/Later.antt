@@ -3,7 +3,7 @@ use Rattle.std.proofs.Common.{◌≡◌, ℕ, zero, suc, ◌≤◌, Bool, List, 
 use Rattle.std.proofs.Common.{slice_get, Some, sym, ap, ◌∙◌, subst, arith, length-append}
 use Rattle.std.proofs.lemmas.List.{take-append-le}
 use Rattle.std.specs.List.{AllByRecursion}
-use Rattle.hall_trait.specs.History.{Entry}
+use Rattle.node_key.specs.History.{Entry}
 use Rattle.trace_session.specs.Replies.{entry_at}
 use Rattle.trace_session.specs.Served.{Served, IsServed, IsAnswered, Standing, standing, AreAt, last_place}
 use Rattle.trace_session.proofs.Grow.{AreAt-more}

@@ -5,8 +5,8 @@ use Rattle.std.proofs.lemmas.List.{take-append-drop}
 use Rattle.std.specs.List.{filter_map, cons_option}
 use Rattle.trace_base.specs.Info.{IsLegalInfo}
 use Rattle.trace_base.specs.declared.names.TraceInfo.{TraceInfo}
-use Rattle.hall_trait.specs.History.{Entry, Opened, Published, Sealed, Dropped, Closed, Asked, MayFollow}
-use Rattle.hall_trait.specs.History.{IsLegalHistory, info_of, info_opened}
+use Rattle.node_key.specs.History.{Entry, Opened, Published, Sealed, Dropped, Closed, Asked, MayFollow}
+use Rattle.node_key.specs.History.{IsLegalHistory, info_of, info_opened}
 use Rattle.trace_session.proofs.Loading.{info_of-more}
 
 -- an entry of which f gives y, at some place

@@ -4,10 +4,12 @@ pub mod Grow
 pub mod Later
 pub mod Legal
 pub mod Loading
+pub mod Numbers
 pub mod Opening
 pub mod Plain
 pub mod Rising
 pub mod Sofar
+pub mod Staking
 pub mod Stepping
 pub mod Streams
 pub mod Telling

@@ -9,15 +9,17 @@ use Rattle.trace_base.specs.declared.asks.PassState.TheVariants.{Straight}
 use Rattle.trace_base.specs.declared.names.TraceInfo.{TraceInfo}
 use Rattle.trace_base.specs.declared.stream.TrackStream.{TrackStream}
 use Rattle.hall_trait.specs.Answers.{CoversAll, MakesLoadEntry, left_after}
-use Rattle.hall_trait.specs.History.{Entry, Published, Sealed, Dropped, FitsTrack, info_of, info_opened}
+use Rattle.node_key.specs.History.{Entry, Published, Sealed, Dropped, FitsTrack, info_of, info_opened}
+use Rattle.node_key.specs.History.{published_tree}
+use Rattle.node_key.specs.Stakes.{Stake}
 use Rattle.hall_trait.specs.Pass.{pass_view, state_at, state_after, advanced, IsNext, IsFresh}
-use Rattle.hall_trait.specs.Seat.{Seat, PassView, Begins, IsAtRest, Becomes}
+use Rattle.node_key.specs.Seat.{Seat, PassView, Begins, IsAtRest, Becomes, ExchangesStakes}
 use Rattle.hall_trait.specs.declared.pass.LoadPass.{LoadPass}
 use Rattle.std.specs.List.{filter_map, cons_option}
 use Rattle.trace_session.specs.Load.{AreTracksOf, PublishesAll, GivesUp}
 use Rattle.trace_session.specs.Served.{published_from}
 use Rattle.trace_session.specs.Serving.{Grows}
-use Rattle.trace_session.proofs.Grow.{grows_none, Grows-more, Begins-trans}
+use Rattle.trace_session.proofs.Grow.{grows_none, Grows-more, Grows-still, Begins-trans}
 
 -- where one item is all that there is, others stand in its stead
 became : {X : Type 0} (x : X) (ys stead front back : List X) → x ∷ [] ≡ front ++ x ∷ back
@@ -61,14 +63,15 @@ AreTracksOf-more old new id tracks b t = record {
 -- the entries of one track more
 pub published_from-push : (id track : ℕ) (ss : List TrackStream) (s : TrackStream)
     → published_from id track (ss ++ s ∷ []) ≡ published_from id track ss
-    ++ Published id (track + length ss) s ∷ []
+    ++ Published id (track + length ss) (published_tree s) ∷ []
 published_from-push id track [] s =
-    let here : track + 0 ≡ track = omega arith in ap (λ (t : ℕ). Published id t s ∷ []) (sym here)
+    let here : track + 0 ≡ track = omega arith in ap (λ (t : ℕ). Published id t (published_tree s) ∷ [])
+    (sym here)
 published_from-push id track (x ∷ xs) s =
     let next : track + 1 + length xs ≡ track + suc (length xs) = omega arith in
-    ap (λ (l : List Entry). Published id track x ∷ l)
+    ap (λ (l : List Entry). Published id track (published_tree x) ∷ l)
     (published_from-push id (track + 1) xs s ∙ ap (λ (t : ℕ). published_from id (track + 1) xs
-    ++ Published id t s ∷ []) next)
+    ++ Published id t (published_tree s) ∷ []) next)
 
 -- the first tracks, those of `done`, are published, and the seat has the one pass
 pub record Loading (alone : Bool) (old now : Seat) (id : ℕ) (tracks finished : List TrackStream)
@@ -125,20 +128,23 @@ Loading-next alone old now id tracks finished rest s pass l whole =
 pub Loading-more : (alone : Bool) (old now new : Seat) (id : ℕ) (tracks finished : List TrackStream)
     (s : TrackStream) (was pass : LoadPass) (place : ℕ) → Loading alone old now id tracks finished was
     → IsNext was (length finished)
-    → MakesLoadEntry alone now new was (Published was.id (length finished) s) place → pass ≡ advanced was
+    → MakesLoadEntry alone now new was (Published was.id (length finished) (published_tree s)) place
+    → pass ≡ advanced was
     → Loading alone old new id tracks (finished ++ s ∷ []) pass
 Loading-more alone old now new id tracks finished s was pass place l next k same =
     let e = k.entered in
     let count : length (finished ++ s ∷ []) ≡ length finished
     + 1 = omega (arith, length-append finished (s ∷ [])) in
     let begins : Begins now.seen new.seen = Begins-trans now.seen e.before new.seen e.grown
-    (Published was.id (length finished) s ∷ [], e.seen) in
+    (Published was.id (length finished) (published_tree s) ∷ [], e.seen) in
     let more = Grows-more alone old now new l.block (published_from id 0 finished)
-    (Published was.id (length finished) s) place l.grows e in
-    let own : published_from id 0 finished ++ Published was.id (length finished) s
+    (Published was.id (length finished) (published_tree s)) place l.grows e in
+    let own : published_from id 0 finished ++ Published was.id (length finished) (published_tree s)
     ∷ [] ≡ published_from id 0 (finished ++ s ∷ []) =
-    ap (λ (i : ℕ). published_from id 0 finished ++ Published i (length finished) s ∷ []) l.same ∙ sym
-    (published_from-push id 0 finished s ∙ ap (λ (t : ℕ). published_from id 0 finished ++ Published id t s
+    ap (λ (i : ℕ). published_from id 0 finished ++ Published i (length finished)
+    (published_tree s) ∷ []) l.same ∙ sym
+    (published_from-push id 0 finished s ∙ ap (λ (t : ℕ). published_from id 0 finished ++ Published id t
+    (published_tree s)
     ∷ []) (zero-add (length finished))) in
     record {
       block = l.block ++ place ∷ [];
@@ -167,11 +173,13 @@ Loading-covers alone old now id tracks finished pass l =
 -- the load ended with this entry, and nothing is left of the pass
 ended_load : (alone : Bool) (old now new : Seat) (id : ℕ) (tracks finished : List TrackStream)
     (pass : LoadPass) (e : Entry) (place : ℕ) → (l : Loading alone old now id tracks finished pass)
-    → left_after pass e ≡ [] → MakesLoadEntry alone now new pass e place
-    → Grows alone old new (l.block ++ place ∷ []) (published_from id 0 finished ++ e ∷ []) × IsAtRest new
-ended_load alone old now new id tracks finished pass e place l none m = (
+    → now.stakes ≡ [] → new.stakes ≡ now.stakes → left_after pass e ≡ []
+    → MakesLoadEntry alone now new pass e place → Grows alone old new (l.block ++ place ∷ [])
+    (published_from id 0 finished ++ e ∷ []) × IsAtRest new
+ended_load alone old now new id tracks finished pass e place l no_stakes same none m = (
   Grows-more alone old now new l.block (published_from id 0 finished) e place l.grows m.entered,
   record {
+    no_stakes = same ∙ no_stakes;
     no_pins = m.pins ∙ l.pins;
     no_passes = Becomes-one (pass_view pass) new.passes (left_after pass e)
         (subst (λ (ps : List PassView). Becomes ps new.passes (pass_view pass) (left_after pass e)) l.passes
@@ -179,20 +187,30 @@ ended_load alone old now new id tracks finished pass e place l none m = (
   },
 )
 
--- a call that changed nothing
-pub Loading-same : (alone : Bool) (old now new : Seat) (id : ℕ) (tracks finished : List TrackStream)
-    (was pass : LoadPass) → new ≡ now → pass ≡ was → Loading alone old now id tracks finished was
-    → Loading alone old new id tracks finished pass
-Loading-same alone old now new id tracks finished was pass seat same l =
-    subst (λ (s : Seat). Loading alone old s id tracks finished pass) (sym seat)
-    (subst (λ (p : LoadPass). Loading alone old now id tracks finished p) (sym same) l)
+-- a call that changed the stakes alone
+pub Loading-still : (alone : Bool) (old now new : Seat) (id : ℕ) (tracks finished : List TrackStream)
+    (pass : LoadPass) (taken given : List Stake) → ExchangesStakes now new taken given
+    → Loading alone old now id tracks finished pass → Loading alone old new id tracks finished pass
+Loading-still alone old now new id tracks finished pass taken given e l = record {
+  block = l.block;
+  grows = Grows-still alone old now new l.block (published_from id 0 finished) l.grows e.entries;
+  passes = e.passes ∙ l.passes;
+  pins = e.pins ∙ l.pins;
+  same = l.same;
+  from = l.from;
+  to = l.to;
+  state = l.state;
+  tracks_of = subst (λ (h : List Entry). AreTracksOf h id tracks) (sym e.entries.seen) l.tracks_of;
+}
 
 -- it was given up behind the tracks that are published
 pub Loading-dropped : (alone : Bool) (old now new : Seat) (id : ℕ) (tracks finished rest : List TrackStream)
-    (pass : LoadPass) (place : ℕ) → Loading alone old now id tracks finished pass → finished ++ rest ≡ tracks
+    (pass : LoadPass) (place : ℕ) → Loading alone old now id tracks finished pass → now.stakes ≡ []
+    → new.stakes ≡ now.stakes → finished ++ rest ≡ tracks
     → MakesLoadEntry alone now new pass (Dropped pass.id) place → GivesUp alone old new id tracks
-Loading-dropped alone old now new id tracks finished rest pass place l whole m =
-    let end = ended_load alone old now new id tracks finished pass (Dropped pass.id) place l refl m in
+Loading-dropped alone old now new id tracks finished rest pass place l none same whole m =
+    let end = ended_load alone old now new id tracks finished pass (Dropped pass.id) place l none same refl m
+    in
     let front : take (length finished) tracks ≡ finished =
     ap (λ (ts : List TrackStream). take (length finished) ts) (sym whole) ∙ take-append_seam finished rest
     in
@@ -209,10 +227,12 @@ Loading-dropped alone old now new id tracks finished rest pass place l whole m =
 
 -- it was sealed behind all of them
 pub Loading-sealed : (alone : Bool) (old now new : Seat) (id : ℕ) (tracks finished : List TrackStream)
-    (pass : LoadPass) (place : ℕ) → Loading alone old now id tracks finished pass → finished ≡ tracks
+    (pass : LoadPass) (place : ℕ) → Loading alone old now id tracks finished pass → now.stakes ≡ []
+    → new.stakes ≡ now.stakes → finished ≡ tracks
     → MakesLoadEntry alone now new pass (Sealed pass.id) place → PublishesAll alone old new id tracks place
-Loading-sealed alone old now new id tracks finished pass place l all m =
-    let end = ended_load alone old now new id tracks finished pass (Sealed pass.id) place l refl m in
+Loading-sealed alone old now new id tracks finished pass place l none same all m =
+    let end = ended_load alone old now new id tracks finished pass (Sealed pass.id) place l none same refl m
+    in
     let own : published_from id 0 finished ++ Sealed pass.id ∷ [] ≡ published_from id 0 tracks ++ Sealed id
     ∷ [] =
     ap (λ (i : ℕ). published_from id 0 finished ++ Sealed i ∷ []) l.same ∙ ap

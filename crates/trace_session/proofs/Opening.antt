@@ -13,8 +13,8 @@ use Rattle.trace_base.specs.declared.names.TraceInfo.{TraceInfo}
 use Rattle.trace_base.specs.declared.text.TraceText.{TraceText}
 use Rattle.hall_trait.specs.Answers.{Admits, AdmitRecords, HasRoom, places_taken, places_of_load, RecordsNone}
 use Rattle.hall_trait.specs.Answers.{OpensTrace, TellsFull, TellsUsedUp}
-use Rattle.hall_trait.specs.History.{Entry, Opened, Sealed, Dropped, Asked, open_ids}
-use Rattle.hall_trait.specs.Seat.{Seat, Begins, IsAtRest}
+use Rattle.node_key.specs.History.{Entry, Opened, Sealed, Dropped, Asked, open_ids}
+use Rattle.node_key.specs.Seat.{Seat, Begins, IsAtRest}
 use Rattle.hall_trait.specs.declared.answers.HallFault.{HallFault}
 use Rattle.hall_trait.specs.declared.answers.HallFault.TheVariants as fault
 use Rattle.hall_trait.specs.declared.pass.LoadPass.{LoadPass}
@@ -28,9 +28,16 @@ use Rattle.paje_reader.specs.declared.read_fault.ReadFault.{ReadFault}
 use Rattle.paje_reader.specs.declared.read_fault.ReadFault.TheVariants.{Refused}
 use Rattle.paje_reader.specs.declared.read_fault.ReadRefusal.{ReadRefusal}
 use Rattle.request_reader.specs.Requests.{WholeRequest, Load}
-use Rattle.trace_session.specs.Load.{PublishesAll, GivesUp}
+use Rattle.shard_core.specs.Room.{Room}
+use Rattle.builders.specs.Builds.{BuildRecords}
+use Rattle.builders.specs.Spending.{BuildSpends, IsStoreSpent}
+use Rattle.hall_trait.specs.Answers.{NextsRise}
+use Rattle.trace_session.specs.Load.{PublishesAll, GivesUp, refusal_of}
 use Rattle.trace_session.specs.Replies.{opened_reply}
-use Rattle.trace_session.specs.Served.{IsAnswered, standing, HasPlaces, IsUsedUp, published_from}
+use Rattle.trace_session.specs.Served.{IsAnswered, Standing, standing, HasPlaces, IsUsedUp, published_from}
+use Rattle.trace_session.specs.Served.{TellsOfStore}
+use Rattle.builders.proofs.Spending.{nexts_same}
+use Rattle.trace_session.proofs.Numbers.{tells_none, tells_without}
 use Rattle.trace_session.specs.Served.{load_entries}
 use Rattle.trace_session.specs.Served.{dropped_entries, last_place}
 use Rattle.trace_session.specs.Serving.{Serves, Grows, RecordsReply}
@@ -62,8 +69,8 @@ had_places alone old new n place seen b room =
 pub Serves-still : (alone : Bool) (old new : Backend) (request : WholeRequest) (r : Reply)
     → new.seat ≡ old.seat → IsAtRest old.seat
     → IsAnswered (standing alone old.seat.seen (length old.seat.seen) []) request r []
-    → RecordsReply old.used_up new.used_up r → Serves alone old new request r
-Serves-still alone old new request r same rest answered records = record {
+    → RecordsReply old.used_up new.used_up r → NextsRise old.rooms new.rooms → Serves alone old new request r
+Serves-still alone old new request r same rest answered records nexts = record {
   block = [];
   entries = [];
   grows = subst (λ (s : Seat). Grows alone old.seat s [] []) (sym same) (grows_none alone old.seat);
@@ -71,6 +78,8 @@ Serves-still alone old new request r same rest answered records = record {
       (sym same) answered;
   rest = subst IsAtRest (sym same) rest;
   records = records;
+  nexts = nexts;
+  of_store = tells_without new.rooms r;
 }
 
 -- the places were used up
@@ -86,8 +95,8 @@ used_up_still alone old new n p m = (
 pub Serves-full : (alone : Bool) (old new : Backend) (text : List ℕ) (t : TraceText) (place : ℕ)
     → Says text t → IsAtRest old.seat
     → TellsFull alone old.seat new.seat (info_of_text t) place → RecordsNone old.used_up new.used_up
-    → Serves alone old new (Load text) (reply.No (no.Full place))
-Serves-full alone old new text t place form rest m none =
+    → NextsRise old.rooms new.rooms → Serves alone old new (Load text) (reply.No (no.Full place))
+Serves-full alone old new text t place form rest m none nexts =
     let grows = Grows-one alone old.seat new.seat Asked place m.entered in
     let whole : take place new.seat.seen ≡ new.seat.seen =
     take_all place new.seat.seen (omega (arith, m.entered.last)) in
@@ -104,8 +113,14 @@ Serves-full alone old new text t place form rest m none =
         had_places alone old.seat.seen new.seat.seen (places_of_load (info_of_text t)) place
             (take place new.seat.seen) grows.seen m.room,
       );
-      rest = record { no_pins = m.pins ∙ rest.no_pins; no_passes = m.passes ∙ rest.no_passes };
+      rest = record {
+        no_stakes = m.stakes ∙ rest.no_stakes;
+        no_pins = m.pins ∙ rest.no_pins;
+        no_passes = m.passes ∙ rest.no_passes;
+      };
       records = records_none old.used_up new.used_up none;
+      nexts = nexts;
+      of_store = tells_none new.rooms (place ∷ []) (reply.No (no.Full place)) refl;
     }
 
 -- the trace was opened and sealed
@@ -113,8 +128,8 @@ pub Serves-opened : (alone : Bool) (old new : Backend) (mid : Seat) (text : List
     (pass : LoadPass) (place : ℕ) → Says text t
     → OpensTrace alone old.seat mid (info_of_text t) pass
     → PublishesAll alone mid new.seat pass.id t.tracks place → RecordsNone old.used_up new.used_up
-    → Serves alone old new (Load text) (opened_reply pass.id t place)
-Serves-opened alone old new mid text t pass place form m p none =
+    → NextsRise old.rooms new.rooms → Serves alone old new (Load text) (opened_reply pass.id t place)
+Serves-opened alone old new mid text t pass place form m p none nexts =
     let opened = Grows-one alone old.seat mid (Opened pass.id (info_of_text t)) pass.place m.entered in
     let all = Grows-trans alone old.seat mid new.seat (pass.place ∷ []) (p.before ++ place ∷ [])
     (Opened pass.id (info_of_text t) ∷ []) (published_from pass.id 0 t.tracks ++ Sealed pass.id ∷ []) opened
@@ -136,25 +151,55 @@ Serves-opened alone old new mid text t pass place form m p none =
       );
       rest = p.rest;
       records = records_none old.used_up new.used_up none;
+      nexts = nexts;
+      of_store = tells_none new.rooms block (opened_reply pass.id t place) refl;
     }
 
--- the load was given up
-pub Serves-dropped : (alone : Bool) (old new : Backend) (mid : Seat) (text : List ℕ) (t : TraceText)
-    (pass : LoadPass) → Says text t → OpensTrace alone old.seat mid (info_of_text t) pass
-    → GivesUp alone mid new.seat pass.id t.tracks → RecordsNone old.used_up new.used_up
-    → Serves alone old new (Load text) (reply.No no.Memory)
-Serves-dropped alone old new mid text t pass form m p none =
+-- the load was given up, for want of memory or since a number of the store is used up
+given_up : (f : HallFault) (s : Standing) (text : List ℕ) (t : TraceText) (id n : ℕ)
+    (was now : Option (List ℕ)) → Says text t → BuildRecords {X = ℕ} was now (Err f)
+    → IsAnswered s (Load text) (refusal_of f) (dropped_entries id t n)
+given_up fault.Memory s text t id n was now form told = inr (id, n, t, form, refl)
+given_up (fault.Spent v) s text t id n was now form told = (t, form, inr (id, n, refl))
+given_up (fault.Full place) s text t id n was now form told = absurd told
+
+given_records : (f : HallFault) (was mid now : Option (List ℕ)) → RecordsNone was mid
+    → BuildRecords {X = ℕ} mid now (Err f) → RecordsReply was now (refusal_of f)
+given_records fault.Memory was mid now none told = records_none was now (told ∙ none)
+given_records (fault.Spent v) was mid now none told =
+    subst (λ (o : Option (List ℕ)). Told o now (λ a b. b ≡ a ++ v ∷ [])) none told
+given_records (fault.Full place) was mid now none told = absurd told
+
+given_numbers : (f : HallFault) (rooms : Option (List Room)) (block : List ℕ) → BuildSpends {X = ℕ} rooms
+    (Err f)
+    → TellsOfStore rooms block (refusal_of f)
+given_numbers fault.Memory rooms block spends = tells_none rooms block (reply.No no.Memory) refl
+given_numbers (fault.Spent v) rooms block spends =
+    λ p made is. let same : v ≡ p = cc in subst (IsStoreSpent rooms) same spends
+given_numbers (fault.Full place) rooms block spends = tells_none rooms block (reply.No (no.Full place)) refl
+
+pub Serves-dropped : (alone : Bool) (old new : Backend) (mid : Seat) (used : Option (List ℕ)) (text : List ℕ)
+    (t : TraceText) (pass : LoadPass) (f : HallFault) → Says text t
+    → OpensTrace alone old.seat mid (info_of_text t) pass → GivesUp alone mid new.seat pass.id t.tracks
+    → RecordsNone old.used_up used → BuildRecords {X = ℕ} used new.used_up (Err f)
+    → NextsRise old.rooms new.rooms → BuildSpends {X = ℕ} new.rooms (Err f)
+    → Serves alone old new (Load text) (refusal_of f)
+Serves-dropped alone old new mid used text t pass f form m p none told nexts spends =
     let opened = Grows-one alone old.seat mid (Opened pass.id (info_of_text t)) pass.place m.entered in
+    let block = pass.place ∷ p.block in
     record {
-      block = pass.place ∷ p.block;
+      block = block;
       entries = dropped_entries pass.id t p.count;
       grows = Grows-trans alone old.seat mid new.seat (pass.place ∷ []) p.block
           (Opened pass.id (info_of_text t)
           ∷ [])
           (published_from pass.id 0 (take p.count t.tracks) ++ Dropped pass.id ∷ []) opened p.grows;
-      answered = inr (pass.id, p.count, t, form, refl);
+      answered = given_up f (standing alone new.seat.seen (length old.seat.seen) block) text t pass.id p.count
+          used new.used_up form told;
       rest = p.rest;
-      records = records_none old.used_up new.used_up none;
+      records = given_records f old.used_up used new.used_up none told;
+      nexts = nexts;
+      of_store = given_numbers f new.rooms block spends;
     }
 
 -- a line of the text is refused, or there was no memory to read it
@@ -173,42 +218,39 @@ put_refused {read} alone s text word fault refusal rest reads is same told =
     let refused : text_refusal text ≡ Some read =
     refusal_read text fault refusal reads is ∙ ap (λ (r : ReadRefusal). Some r) (sym same) in
     Serves-still alone s s (Load text) (reply.No (no.Text read.line word)) refl rest
-    (read, refused, refl, told, refl) (records_none s.used_up s.used_up refl)
+    (read, refused, refl, told, refl) (records_none s.used_up s.used_up refl) (nexts_same s.rooms)
 
 pub put_memory : (alone : Bool) (s : Backend) (text : List ℕ) → IsAtRest s.seat
     → Serves alone s s (Load text) (reply.No no.Memory)
 put_memory alone s text rest = Serves-still alone s s (Load text) (reply.No no.Memory) refl rest (inl refl)
-    (records_none s.used_up s.used_up refl)
-
--- the reply to a text that the hall didn't let in
-abbrev pub refusal : HallFault → Reply
-refusal fault.Memory = reply.No no.Memory
-refusal (fault.Spent n) = reply.No (no.Spent n)
-refusal (fault.Full place) = reply.No (no.Full place)
+    (records_none s.used_up s.used_up refl) (nexts_same s.rooms)
 
 -- the trace wasn't let in
 refused_by : (alone : Bool) (old new : Backend) (text : List ℕ) (t : TraceText) (f : HallFault)
     → Says text t → IsAtRest old.seat → Admits alone old.seat new.seat (info_of_text t) (Err f)
-    → AdmitRecords old.used_up new.used_up (Err f) → Serves alone old new (Load text) (refusal f)
-refused_by alone old new text t fault.Memory form rest m told =
+    → AdmitRecords old.used_up new.used_up (Err f) → NextsRise old.rooms new.rooms
+    → Serves alone old new (Load text) (refusal_of f)
+refused_by alone old new text t fault.Memory form rest m told nexts =
     Serves-still alone old new (Load text) (reply.No no.Memory) m rest (inl refl)
-    (records_none old.used_up new.used_up told)
-refused_by alone old new text t (fault.Spent n) form rest m told =
+    (records_none old.used_up new.used_up told) nexts
+refused_by alone old new text t (fault.Spent n) form rest m told nexts =
     Serves-still alone old new (Load text) (reply.No (no.Spent n)) m.same rest
-    (t, form, refl, used_up_still alone old.seat new.seat (places_of_load (info_of_text t)) n m) told
-refused_by alone old new text t (fault.Full place) form rest m told =
-    Serves-full alone old new text t place form rest m told
+    (t, form, inl (refl, used_up_still alone old.seat new.seat (places_of_load (info_of_text t)) n m)) told
+    nexts
+refused_by alone old new text t (fault.Full place) form rest m told nexts =
+    Serves-full alone old new text t place form rest m told nexts
 
 pub Serves-refused : (alone : Bool) (old new : Backend) (text : List ℕ) (t : TraceText) (info : TraceInfo)
     (r : Result LoadPass HallFault) (f : HallFault) → Says text t → IsAtRest old.seat
     → info ≡ info_of_text t → r ≡ Err f → Admits alone old.seat new.seat info r
-    → AdmitRecords old.used_up new.used_up r → Serves alone old new (Load text) (refusal f)
-Serves-refused alone old new text t info r f form rest same is answer told =
+    → AdmitRecords old.used_up new.used_up r → NextsRise old.rooms new.rooms
+    → Serves alone old new (Load text) (refusal_of f)
+Serves-refused alone old new text t info r f form rest same is answer told nexts =
     let by_result = subst (λ (x : Result LoadPass HallFault). Admits alone old.seat new.seat info x) is answer
     in
     let by_info = subst (λ (i : TraceInfo). Admits alone old.seat new.seat i (Err f)) same by_result in
     refused_by alone old new text t f form rest by_info
-    (subst (λ (x : Result LoadPass HallFault). AdmitRecords old.used_up new.used_up x) is told)
+    (subst (λ (x : Result LoadPass HallFault). AdmitRecords old.used_up new.used_up x) is told) nexts
 
 -- the info that was made of a trace
 abbrev pub with_messages : TraceText → MsgTable → TraceInfo

@@ -1,6 +1,6 @@
 -- Requests that need nothing of the hall, and the request that came.
 use Rattle.std.proofs.Common.{◌≡◌, ℕ, Bool, List, refl, sym, subst}
-use Rattle.hall_trait.specs.Seat.{IsAtRest}
+use Rattle.node_key.specs.Seat.{IsAtRest}
 use Rattle.request_reader.specs.Requests.{WholeRequest, Line, Load, Large, Unreadable}
 use Rattle.session_proto.specs.declared.reply.No.TheVariants as no
 use Rattle.session_proto.specs.declared.reply.Reply.{Reply}
@@ -9,18 +9,19 @@ use Rattle.session_proto.specs.declared.request.Request.{Request}
 use Rattle.session_proto.specs.declared.request.Request.TheVariants.{Quit}
 use Rattle.trace_session.specs.Serving.{Serves}
 use Rattle.trace_session.specs.State.{Backend}
+use Rattle.builders.proofs.Spending.{nexts_same}
 use Rattle.trace_session.proofs.Opening.{records_none, Serves-still, put_memory}
 
 pub serves_quit : (alone : Bool) (s : Backend) → IsAtRest s.seat → Serves alone s s (Line Quit) reply.Quit
 serves_quit alone s rest = Serves-still alone s s (Line Quit) reply.Quit refl rest refl
-    (records_none s.used_up s.used_up refl)
+    (records_none s.used_up s.used_up refl) (nexts_same s.rooms)
 
 pub serves_unreadable : (alone : Bool) (s : Backend) (request : WholeRequest) → IsAtRest s.seat
     → request ≡ Unreadable → Serves alone s s request (reply.No no.Grammar)
 serves_unreadable alone s request rest is =
     subst (λ (r : WholeRequest). Serves alone s s r (reply.No no.Grammar)) (sym is)
     (Serves-still alone s s Unreadable (reply.No no.Grammar) refl rest refl
-    (records_none s.used_up s.used_up refl))
+    (records_none s.used_up s.used_up refl) (nexts_same s.rooms))
 
 pub serves_dropped : (alone : Bool) (s : Backend) (request : WholeRequest) → IsAtRest s.seat
     → ((bytes : List ℕ) × (request ≡ Load bytes)) → Serves alone s s request (reply.No no.Memory)
@@ -32,7 +33,8 @@ pub serves_large : (alone : Bool) (s : Backend) (request : WholeRequest) → IsA
     → request ≡ Large → Serves alone s s request (reply.No no.Large)
 serves_large alone s request rest is =
     subst (λ (r : WholeRequest). Serves alone s s r (reply.No no.Large)) (sym is)
-    (Serves-still alone s s Large (reply.No no.Large) refl rest refl (records_none s.used_up s.used_up refl))
+    (Serves-still alone s s Large (reply.No no.Large) refl rest refl (records_none s.used_up s.used_up refl)
+    (nexts_same s.rooms))
 
 -- the request that was served is the one that came
 pub serves_line : (alone : Bool) (old new : Backend) (request : WholeRequest) (line : Request) (r : Reply)

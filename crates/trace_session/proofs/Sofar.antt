@@ -7,8 +7,8 @@ use Rattle.std.proofs.lemmas.List.Elements.{filter_map-append}
 use Rattle.std.specs.Bool.{OnTrue}
 use Rattle.std.specs.List.{AllByRecursion, cons_option}
 use Rattle.trace_base.specs.Outside.{Told}
-use Rattle.hall_trait.specs.History.{Entry}
-use Rattle.hall_trait.specs.Seat.{Begins, IsAtRest}
+use Rattle.node_key.specs.History.{Entry}
+use Rattle.node_key.specs.Seat.{Begins, IsAtRest}
 use Rattle.session_proto.specs.Reply.{reply_text}
 use Rattle.session_proto.specs.declared.reply.Reply.{Reply}
 use Rattle.request_reader.proofs.Cutting.{requests_of-append}
@@ -16,7 +16,10 @@ use Rattle.request_reader.specs.Incoming.{Spells, Takes, left_to_read}
 use Rattle.session_proto.specs.declared.request.Request.TheVariants.{Quit}
 use Rattle.request_reader.specs.Requests.{WholeRequest, Line, Requests, Ending}
 use Rattle.request_reader.specs.Requests.{requests_of, onto}
-use Rattle.trace_session.specs.Served.{Served, IsServed, blocks_of, output_of, spent_numbers, spent_number}
+use Rattle.hall_trait.specs.Answers.{NextsRise}
+use Rattle.trace_session.specs.Served.{Served, IsServed, TellsOfStore, blocks_of, output_of, spent_numbers, spent_number}
+use Rattle.builders.proofs.Spending.{nexts_same, nexts_then}
+use Rattle.trace_session.proofs.Numbers.{tells_later}
 use Rattle.trace_session.specs.Serving.{Serves}
 use Rattle.trace_session.specs.Session.{ComeInOrder, requests_served}
 use Rattle.trace_session.specs.State.{Backend, SessionState}
@@ -35,6 +38,8 @@ pub record Done (alone : Bool) (old now : Backend) (served : List Served) : Type
   pub lone : OnTrue alone (length now.seat.seen ≡ length old.seat.seen + length (blocks_of served))
   pub rest : IsAtRest now.seat
   pub records : Told old.used_up now.used_up (λ was is. is ≡ was ++ spent_numbers served)
+  pub nexts : NextsRise old.rooms now.rooms
+  pub of_store : AllByRecursion (λ (x : Served). TellsOfStore now.rooms x.block x.reply) served
 
 -- these requests in front of those of other bytes
 abbrev pub in_front : List WholeRequest → Requests → Requests
@@ -116,6 +121,10 @@ done_more alone old now new served request r d s =
           (λ a b c p q. q ∙ ap (λ (l : List ℕ). l ++ option_to_list (spent_number r)) p ∙ append_assoc a
           (spent_numbers served) (option_to_list (spent_number r)) ∙ ap (λ (l : List ℕ). a ++ l)
           (sym (numbers_more served request before s.block r))) d.records s.records;
+      nexts = nexts_then old.rooms now.rooms new.rooms d.nexts s.nexts;
+      of_store = all_push (λ (x : Served). TellsOfStore new.rooms x.block x.reply) served
+          (record { request = request; before = before; block = s.block; reply = r })
+          (tells_later now.rooms new.rooms served s.nexts d.of_store) s.of_store;
     }
 
 -- the texts of one reply more
@@ -204,6 +213,8 @@ sofar_none alone s rest = record {
     rest = rest;
     records = told_same (λ was is. is ≡ was ++ []) s.backend.used_up s.backend.used_up
         (λ x. sym (append-nil x)) refl;
+    nexts = nexts_same s.backend.rooms;
+    of_store = tt;
   };
   input = told_same (HasRead []) s.left (left_to_read [] s.left) (λ x. ([], refl, λ more. refl))
       (same s.left);

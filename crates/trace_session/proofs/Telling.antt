@@ -2,7 +2,7 @@
 use Rattle.std.proofs.Common.{length, ◌≡◌, ℕ, Bool, false, List, ◌++◌, Option, None, Some}
 use Rattle.std.proofs.Common.{option_to_list, refl, sym, subst, inl, inr}
 use Rattle.trace_base.specs.Outside.{Told}
-use Rattle.hall_trait.specs.History.{Entry}
+use Rattle.node_key.specs.History.{Entry}
 use Rattle.session_proto.specs.Reply.{is_short, is_short_refusal}
 use Rattle.session_proto.specs.declared.reply.NamedRow.{NamedRow}
 use Rattle.session_proto.specs.declared.reply.No.{No}
@@ -91,4 +91,6 @@ Serves-untold alone old new request r long s = record {
   rest = s.rest;
   records = subst (λ (o : Option ℕ). Told old.used_up new.used_up (λ was now. now ≡ was ++ option_to_list o))
       (long_number r long) s.records;
+  nexts = s.nexts;
+  of_store = λ p made is. absurd (cc);
 }

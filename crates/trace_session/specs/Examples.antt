@@ -2,7 +2,7 @@
 use Rattle.std.specs.Prelude.{ℕ, List, [], ◌∷◌, ◌++◌, codes, flat_map}
 use Rattle.trace_base.specs.Examples as streams
 use Rattle.trace_base.specs.declared.text.TraceText.{TraceText}
-use Rattle.hall_trait.specs.History.{Entry, Opened, Published, Sealed, Asked}
+use Rattle.node_key.specs.History.{Entry, Opened, Published, Sealed, Asked, published_tree}
 use Rattle.paje_lines.specs.Text.{info_of_text}
 
 -- the lines that define six events, a type of containers and one of states
@@ -54,5 +54,7 @@ first_trace = record {
 
 -- the history that the session leaves in a new hall
 abbrev pub first_history : List Entry
-first_history = Opened 1 (info_of_text first_trace) ∷ Published 1 0 streams.two_calls ∷ Sealed 1 ∷ Asked
+first_history = Opened 1 (info_of_text first_trace) ∷ Published 1 0
+    (published_tree streams.two_calls) ∷ Sealed 1
+    ∷ Asked
     ∷ []

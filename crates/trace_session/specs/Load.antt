@@ -1,11 +1,16 @@
 -- What publishing the tracks of a new trace leaves.
-use Rattle.std.specs.Prelude.{◌≡◌, ℕ, Bool, List, [], ◌∷◌, ◌++◌, length, take, slice_get, Option, None}
-use Rattle.std.specs.Prelude.{Some}
+use Rattle.std.specs.Prelude.{◌≡◌, ℕ, Bool, List, [], ◌∷◌, ◌++◌, length, take, slice_get, Some, Result, Ok}
+use Rattle.std.specs.Prelude.{Err}
 use Rattle.trace_base.specs.Info.{Fits}
 use Rattle.trace_base.specs.declared.names.TraceInfo.{TraceInfo}
 use Rattle.trace_base.specs.declared.stream.TrackStream.{TrackStream}
-use Rattle.hall_trait.specs.History.{Entry, Sealed, Dropped, info_of}
-use Rattle.hall_trait.specs.Seat.{Seat, IsAtRest}
+use Rattle.node_key.specs.History.{Entry, Sealed, Dropped, info_of}
+use Rattle.node_key.specs.Seat.{Seat, IsAtRest}
+use Rattle.hall_trait.specs.declared.answers.HallFault.{HallFault}
+use Rattle.hall_trait.specs.declared.answers.HallFault.TheVariants as fault
+use Rattle.session_proto.specs.declared.reply.No.TheVariants as no
+use Rattle.session_proto.specs.declared.reply.Reply.{Reply}
+use Rattle.session_proto.specs.declared.reply.Reply.TheVariants as reply
 use Rattle.trace_session.specs.Served.{published_from}
 use Rattle.trace_session.specs.Serving.{Grows}
 
@@ -27,7 +32,7 @@ pub record PublishesAll (alone : Bool) (old new : Seat) (id : ℕ) (tracks : Lis
   pub grows : Grows alone old new (before ++ place ∷ []) (published_from id 0 tracks ++ Sealed id ∷ [])
   pub rest : IsAtRest new
 
--- without memory the load is given up behind some of them
+-- the load is given up behind some of them
 pub record GivesUp (alone : Bool) (old new : Seat) (id : ℕ) (tracks : List TrackStream) : Type 0 where
   pub count : ℕ
   pub block : List ℕ
@@ -35,6 +40,12 @@ pub record GivesUp (alone : Bool) (old new : Seat) (id : ℕ) (tracks : List Tra
   pub rest : IsAtRest new
 
 -- what publishing them answers
-abbrev pub Publishes : Bool → Seat → Seat → ℕ → List TrackStream → Option ℕ → Type 0
-Publishes alone old new id tracks (Some place) = PublishesAll alone old new id tracks place
-Publishes alone old new id tracks None = GivesUp alone old new id tracks
+abbrev pub Publishes : Bool → Seat → Seat → ℕ → List TrackStream → Result ℕ HallFault → Type 0
+Publishes alone old new id tracks (Ok place) = PublishesAll alone old new id tracks place
+Publishes alone old new id tracks (Err e) = GivesUp alone old new id tracks
+
+-- the reply to a load that the hall refused, at once or on the way
+abbrev pub refusal_of : HallFault → Reply
+refusal_of fault.Memory = reply.No no.Memory
+refusal_of (fault.Spent n) = reply.No (no.Spent n)
+refusal_of (fault.Full place) = reply.No (no.Full place)

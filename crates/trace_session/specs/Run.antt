@@ -1,6 +1,13 @@
 -- What a run of the program does.
-use Rattle.std.specs.Prelude.{◌≡◌, ℕ, true, List, [], codes, Option, None}
-use Rattle.hall_trait.specs.Seat.{Seat}
+use Rattle.std.specs.Prelude.{◌≡◌, ◌⊎◌, ℕ, true, List, [], ◌∷◌, ◌++◌, codes, Option, None, Some}
+use Rattle.trace_base.specs.Outside.{Told}
+use Rattle.node_key.specs.Left.{left_of}
+use Rattle.node_key.specs.Seat.{Seat}
+use Rattle.node_key.specs.declared.left.Left.{Left}
+use Rattle.session_proto.specs.Reply.{spaced}
+use Rattle.shard_core.specs.Room.{Room}
+use Rattle.store_laws.specs.Store.{empty_store}
+use Rattle.trace_session.specs.Output.{WritesFront}
 use Rattle.trace_session.specs.Session.{IsSession}
 use Rattle.trace_session.specs.State.{Backend}
 use Rattle.trace_session.specs.declared.sessions.End.{End}
@@ -8,13 +15,18 @@ use Rattle.trace_session.specs.declared.sessions.End.TheVariants as ends
 
 -- the seat of a new hall
 abbrev pub new_seat : Seat
-new_seat = record { pins = []; passes = []; seen = []; places = [] }
+new_seat = record { stakes = []; pins = []; passes = []; seen = []; places = [] }
 
 -- the line that tells the words
 abbrev pub usage_text : List ℕ
 usage_text = codes "usage: cccgd batch, cccgd serve <addr> <workers> <each>, cccgd gen <seed> <size>\n"
 
--- the exit status for the end of a session
+-- the line that tells what is left of the loads: how many traces are open, and how many different subtrees
+-- their trees have
+abbrev pub left_text : Left → List ℕ
+left_text left = codes "LEFT" ++ spaced left.traces ++ spaced left.nodes ++ 10 ∷ []
+
+-- the exit status for the end of a session behind which all was written
 abbrev pub status_of : End → ℕ
 status_of ends.Quit = 0
 status_of ends.Eof = 0
@@ -22,14 +34,27 @@ status_of ends.Cut = 6
 status_of ends.ReadFault = 3
 status_of ends.WriteFault = 3
 
--- what a new hall serves from
-abbrev pub new_backend : Backend
-new_backend = record { seat = new_seat; used_up = None }
+-- What is written behind a session, and the status: the line that tells what is left. Where the sink failed
+-- in the session nothing is, and where it fails then, a front of the line alone.
+abbrev pub TellsLeft : End → Left → Option (List ℕ) → Option (List ℕ) → ℕ → Type 0
+TellsLeft ends.WriteFault left held held' status = (held' ≡ held) × (status ≡ 3)
+TellsLeft end left held held' status =
+    (Told held held' (λ was now. now ≡ was ++ left_text left) × (status ≡ status_of end))
+    ⊎ (Told held held' (WritesFront (left_text left)) × (status ≡ 3))
 
--- One session over a new hall that no one else acts in, and the status of its end.
+-- what a new hall serves from, whose store has no nodes and gives its first numbers next
+abbrev pub new_backend : Backend
+new_backend = record { seat = new_seat; used_up = None; rooms = Some (empty_store 0) }
+
+-- One session over a new hall that no one else acts in; then what is left of its loads is told. `rooms` are
+-- those of the hall's store at the end, and `middle` is what the sink holds behind the session.
 abbrev pub RunsBatch : Option (List ℕ) → Option (List ℕ) → Option (List ℕ) → Option (List ℕ) → ℕ → Type 0
 RunsBatch left left' held held' status =
-    (end : End) × (backend : Backend)
+    (end : End) × (seat : Seat) × (rooms : List Room) × (middle : Option (List ℕ))
     × IsSession true (record { backend = new_backend; left = left; held = held })
-    (record { backend = backend; left = left'; held = held' }) end
-    × (status ≡ status_of end)
+    (record {
+      backend = record { seat = seat; used_up = None; rooms = Some rooms };
+      left = left';
+      held = middle;
+    }) end
+    × TellsLeft end (left_of seat.seen) middle held' status

@@ -1,12 +1,14 @@
 -- A request that a session served: the places of its own entries, what these are, and its reply.
-use Rattle.std.specs.Prelude.{◌≡◌, ℕ, ◌+◌, ◌≤◌, ◌<◌, ◌⊎◌, Bool, List, [], ◌∷◌, ◌++◌, length, take, map}
+use Rattle.std.specs.Prelude.{◌≡◌, ◌≢◌, ℕ, ◌+◌, ◌≤◌, ◌<◌, ◌⊎◌, Bool, List, [], ◌∷◌, ◌++◌, length, take, map}
 use Rattle.std.specs.Prelude.{flat_map, filter_map, Option, None, Some}
 use Rattle.std.specs.Bool.{OnTrue}
 use Rattle.trace_base.specs.declared.limits.TheConstants.{MAX_OPEN_TRACES}
 use Rattle.trace_base.specs.declared.stream.TrackStream.{TrackStream}
 use Rattle.trace_base.specs.declared.text.TraceText.{TraceText}
 use Rattle.hall_trait.specs.Answers.{HasRoom, LeavesNoRoom, places_taken, places_of_load}
-use Rattle.hall_trait.specs.History.{Entry, Opened, Published, Sealed, Dropped, Asked, open_ids}
+use Rattle.node_key.specs.History.{Entry, Opened, Published, Sealed, Dropped, Asked, open_ids, published_tree}
+use Rattle.shard_core.specs.Room.{Room}
+use Rattle.builders.specs.Spending.{IsStoreSpent}
 use Rattle.session_proto.specs.Reply.{reply_text}
 use Rattle.session_proto.specs.declared.reply.No.TheVariants as no
 use Rattle.session_proto.specs.declared.reply.Reply.{Reply}
@@ -28,10 +30,10 @@ pub record Served : Type 0 where
   pub block : List ℕ
   pub reply : Reply
 
--- the entries that publish streams as the tracks from this number on
+-- the entries that publish the trees of streams as the tracks from this number on
 abbrev pub published_from : ℕ → ℕ → List TrackStream → List Entry
 published_from id track [] = []
-published_from id track (s ∷ ss) = Published id track s ∷ published_from id (track + 1) ss
+published_from id track (s ∷ ss) = Published id track (published_tree s) ∷ published_from id (track + 1) ss
 
 -- the entries of a trace that was opened and sealed
 abbrev pub load_entries : ℕ → TraceText → List Entry
@@ -94,10 +96,11 @@ IsAnswered s (Load text) (reply.Put id tracks functions messages place) entries 
 IsAnswered s (Load text) (reply.No (no.Full place)) entries =
     (t : TraceText) × Says text t × (entries ≡ Asked ∷ []) × (place ≡ s.place)
     × (length (open_ids s.seen) ≡ MAX_OPEN_TRACES) × HasPlaces s (places_of_load (info_of_text t))
--- or the places are used up
+-- or the places are used up, or a number of the store is, and what was begun was given up
 IsAnswered s (Load text) (reply.No (no.Spent p)) entries =
-    (t : TraceText) × Says text t × (entries ≡ [])
-    × IsUsedUp s (places_of_load (info_of_text t)) p
+    (t : TraceText) × Says text t
+    × (((entries ≡ []) × IsUsedUp s (places_of_load (info_of_text t)) p)
+    ⊎ ((id n : ℕ) × (entries ≡ dropped_entries id t n)))
 -- or there was no memory, and what was begun was given up
 IsAnswered s (Load text) (reply.No no.Memory) entries =
     (entries ≡ []) ⊎ ((id n : ℕ) × (t : TraceText) × Says text t
@@ -143,3 +146,8 @@ spent_number r = None
 
 abbrev pub spent_numbers : List Served → List ℕ
 spent_numbers served = filter_map (λ (x : Served). spent_number x.reply) served
+
+-- A number that was told as used up where entries were made is one of the store: these are the rooms that the
+-- hall tells when the session is over.
+abbrev pub TellsOfStore : Option (List Room) → List ℕ → Reply → Type 0
+TellsOfStore rooms block r = (p : ℕ) → block ≢ [] → spent_number r ≡ Some p → IsStoreSpent rooms p

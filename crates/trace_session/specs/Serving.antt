@@ -2,11 +2,12 @@
 use Rattle.std.specs.Prelude.{◌≡◌, ℕ, Bool, List, ◌++◌, length, Option, option_to_list}
 use Rattle.std.specs.Bool.{OnTrue}
 use Rattle.trace_base.specs.Outside.{Told}
-use Rattle.hall_trait.specs.History.{Entry}
-use Rattle.hall_trait.specs.Seat.{Seat, Begins, IsAtRest}
+use Rattle.node_key.specs.History.{Entry}
+use Rattle.node_key.specs.Seat.{Seat, Begins, IsAtRest}
 use Rattle.session_proto.specs.declared.reply.Reply.{Reply}
 use Rattle.request_reader.specs.Requests.{WholeRequest}
-use Rattle.trace_session.specs.Served.{AreAt, Rise, IsAnswered, standing, spent_number}
+use Rattle.hall_trait.specs.Answers.{NextsRise}
+use Rattle.trace_session.specs.Served.{AreAt, Rise, IsAnswered, TellsOfStore, standing, spent_number}
 use Rattle.trace_session.specs.State.{Backend}
 
 -- The seat made these entries, at the places of the block, which rise behind what it had seen, and no others.
@@ -30,3 +31,5 @@ pub record Serves (alone : Bool) (old new : Backend) (request : WholeRequest) (r
   pub answered : IsAnswered (standing alone new.seat.seen (length old.seat.seen) block) request reply entries
   pub rest : IsAtRest new.seat
   pub records : RecordsReply old.used_up new.used_up reply
+  pub nexts : NextsRise old.rooms new.rooms
+  pub of_store : TellsOfStore new.rooms block reply

@@ -3,13 +3,15 @@ use Rattle.std.specs.Prelude.{◌≡◌, ◌≢◌, ℕ, ◌+◌, Bool, List, []
 use Rattle.std.specs.Bool.{OnTrue}
 use Rattle.std.specs.List.{AllByRecursion}
 use Rattle.trace_base.specs.Outside.{Told}
-use Rattle.hall_trait.specs.History.{IsLegalHistory}
-use Rattle.hall_trait.specs.Seat.{Begins, IsAtRest}
+use Rattle.node_key.specs.History.{IsLegalHistory}
+use Rattle.node_key.specs.Seat.{Begins, IsAtRest}
 use Rattle.session_proto.specs.Reply.{reply_text}
 use Rattle.request_reader.specs.Requests.{WholeRequest, Requests, AfterQuit, Between, Inside}
 use Rattle.request_reader.specs.Requests.{requests_of}
 use Rattle.trace_session.specs.Output.{WritesFront}
-use Rattle.trace_session.specs.Served.{Served, IsServed, Rise, blocks_of, output_of, spent_numbers}
+use Rattle.hall_trait.specs.Answers.{NextsRise}
+use Rattle.trace_session.specs.Served.{Served, IsServed, Rise, TellsOfStore, blocks_of, output_of}
+use Rattle.trace_session.specs.Served.{spent_numbers}
 use Rattle.trace_session.specs.State.{SessionState}
 use Rattle.trace_session.specs.declared.sessions.End.{End}
 use Rattle.trace_session.specs.declared.sessions.End.TheVariants as ends
@@ -56,7 +58,8 @@ ComeInOrder n (x ∷ served) m = (x.before ≡ n) × (after : ℕ) × Rise n x.b
 
 -- A session, from old to new. Each request was served in the history that the seat has seen at its end, which
 -- is legal. The seat's new places are the blocks in order and nothing else, and a seat that is alone saw no
--- entries but those. It is left at rest.
+-- entries but those. It is left at rest. Where the hall tells its rooms, these say which numbers of the store
+-- are used up.
 pub record IsSession (alone : Bool) (old new : SessionState) (end : End) : Type 0 where
   pub served : List Served
   pub each : AllByRecursion (IsServed alone new.backend.seat.seen) served
@@ -68,5 +71,7 @@ pub record IsSession (alone : Bool) (old new : SessionState) (end : End) : Type 
       (length new.backend.seat.seen ≡ length old.backend.seat.seen + length (blocks_of served))
   pub rest : IsAtRest new.backend.seat
   pub records : Told old.backend.used_up new.backend.used_up (λ was now. now ≡ was ++ spent_numbers served)
+  pub nexts : NextsRise old.backend.rooms new.backend.rooms
+  pub of_store : AllByRecursion (λ (x : Served). TellsOfStore new.backend.rooms x.block x.reply) served
   pub input : Told old.left new.left (λ was now. ReadsRequests end was now served)
   pub output : Told old.held new.held (λ was now. WritesReplies end was now served)

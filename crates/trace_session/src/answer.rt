@@ -1,6 +1,6 @@
 ghost use Rattle.std.specs.Prelude.{◌≡◌, ◌≤◌, ℕ, List, Option, Some};
 ghost use Rattle.trace_base.specs.Outside.{Rose};
-ghost use Rattle.hall_trait.specs.Seat.{IsAtRest};
+ghost use Rattle.node_key.specs.Seat.{IsAtRest};
 ghost use Rattle.request_reader.specs.Incoming.{Is, ComesWithinLimits};
 ghost use Rattle.request_reader.specs.Requests.{WholeRequest};
 ghost use Rattle.trace_session.specs.Step.{AnswersOne, EndsWith};
@@ -32,12 +32,12 @@ pub fn answer<R: Wait, H: Hall, O: Sink>(
     ensures answers { (request : WholeRequest) → Is incoming buf.old.input.text.items request
         → (left : Option (List ℕ)) → AnswersOne H.alone
         (record {
-          backend = record { seat = H.seat hall.old; used_up = H.used_up hall.old };
+          backend = record { seat = H.seat hall.old; used_up = H.used_up hall.old; rooms = H.rooms hall.old };
           left = left;
           held = O.held output.old;
         })
         (record {
-          backend = record { seat = H.seat hall.new; used_up = H.used_up hall.new };
+          backend = record { seat = H.seat hall.new; used_up = H.used_up hall.new; rooms = H.rooms hall.new };
           left = left;
           held = O.held output.new;
         })

@@ -4,6 +4,8 @@
 mod answer;
 mod buffer;
 mod examples;
+mod finish;
+mod left;
 mod load;
 mod output;
 mod profile;

@@ -1,13 +1,17 @@
 ghost use Rattle.std.specs.Prelude.{◌≡◌, ◌≤◌, ℕ, List, [], ◌∷◌, length};
 ghost use Rattle.trace_base.specs.Info.{IsLegalInfo};
-ghost use Rattle.hall_trait.specs.Seat.{IsAtRest};
+ghost use Rattle.node_key.specs.Seat.{IsAtRest};
 ghost use Rattle.request_reader.specs.Requests.{Load};
 ghost use Rattle.paje_lines.specs.Text.{info_of_text};
 ghost use Rattle.paje_reader.specs.TextSaid.{Says};
 ghost use Rattle.trace_session.specs.Serving.{Serves};
 ghost use Rattle.hall_trait.specs.Pass.{pass_view, IsFresh};
-ghost use Rattle.trace_session.specs.Load.{AreTracksOf, FitAll, Publishes};
+ghost use Rattle.builders.specs.Builds.{BuildRecords};
+ghost use Rattle.builders.specs.Spending.{BuildSpends};
+ghost use Rattle.hall_trait.specs.Answers.{NextsRise};
+ghost use Rattle.trace_session.specs.Load.{AreTracksOf, FitAll, Publishes, refusal_of};
 
+use builders::build_track;
 use hall_trait::{Hall, HallFault, LoadPass};
 use message_lists::match_links;
 use paje_reader::{ReadFault, read_trace};
@@ -22,8 +26,9 @@ pub fn serve_load<R: Wait, H: Hall>(rt: &R, alloc: Global, hall: &mut H, text: &
     requires rest { IsAtRest (H.seat hall.old) }
     requires limit { length text.now ≤ MAX_TEXT }
     ensures { Serves H.alone
-        (record { seat = H.seat hall.old; used_up = H.used_up hall.old })
-        (record { seat = H.seat hall.new; used_up = H.used_up hall.new }) (Load text.now) result }
+        (record { seat = H.seat hall.old; used_up = H.used_up hall.old; rooms = H.rooms hall.old })
+        (record { seat = H.seat hall.new; used_up = H.used_up hall.new; rooms = H.rooms hall.new })
+        (Load text.now) result }
 {
     match read_trace(alloc, text) {
         Ok(trace) => open_trace(rt, alloc, hall, trace),
@@ -41,8 +46,9 @@ fn open_trace<R: Wait, H: Hall>(rt: &R, alloc: Global, hall: &mut H, trace: Trac
     requires lengths { length trace.tracks ≡ length trace.names.tracks }
     requires fits { FitAll (info_of_text trace) trace.tracks }
     ensures { (text : List ℕ) → Says text trace → Serves H.alone
-        (record { seat = H.seat hall.old; used_up = H.used_up hall.old })
-        (record { seat = H.seat hall.new; used_up = H.used_up hall.new }) (Load text) result }
+        (record { seat = H.seat hall.old; used_up = H.used_up hall.old; rooms = H.rooms hall.old })
+        (record { seat = H.seat hall.new; used_up = H.used_up hall.new; rooms = H.rooms hall.new })
+        (Load text) result }
 {
     let TraceText {
         names,
@@ -62,46 +68,61 @@ fn open_trace<R: Wait, H: Hall>(rt: &R, alloc: Global, hall: &mut H, trace: Trac
     match hall.admit(rt, info) {
         Ok(pass) => {
             let id = pass.id();
-            match publish_all(rt, hall, pass, tracks) {
-                Some(place) => Reply::Put {
+            match publish_all(rt, alloc, hall, pass, tracks) {
+                Ok(place) => Reply::Put {
                     id,
                     tracks: track_count,
                     functions,
                     messages: message_count,
                     place,
                 },
-                None => Reply::No(No::Memory),
+                Err(given_up) => refusal(given_up),
             }
         }
-        Err(HallFault::Memory) => Reply::No(No::Memory),
-        Err(HallFault::Spent(n)) => Reply::No(No::Spent(n)),
-        Err(HallFault::Full(place)) => Reply::No(No::Full(place)),
+        Err(refused) => refusal(refused),
     }
 }
 
-// Publishes the tracks of a trace that was let in, and seals it; answers the place of the seal. Without
-// memory the load is given up.
+// The reply to a load that the hall refused.
+fn refusal(fault: HallFault) -> Reply
+    ensures { result ≡ refusal_of fault }
+{
+    match fault {
+        HallFault::Memory => Reply::No(No::Memory),
+        HallFault::Spent(n) => Reply::No(No::Spent(n)),
+        HallFault::Full(place) => Reply::No(No::Full(place)),
+    }
+}
+
+// Builds and publishes the tracks of a trace that was let in, one after the other, and seals it; answers the
+// place of the seal. Where a tree can't be built the load is given up.
 fn publish_all<R: Wait, H: Hall>(
     rt: &R,
+    alloc: Global,
     hall: &mut H,
     mut pass: LoadPass,
     tracks: Seq<TrackStream>,
-) -> Option<u64>
+) -> Result<u64, HallFault>
+    requires stakes { (H.seat hall.old).stakes ≡ [] }
     requires passes { (H.seat hall.old).passes ≡ pass_view pass ∷ [] }
     requires pins { (H.seat hall.old).pins ≡ [] }
     requires fresh { IsFresh pass (length tracks) }
     requires tracks { AreTracksOf (H.seat hall.old).seen pass.id tracks }
     ensures published { Publishes H.alone (H.seat hall.old) (H.seat hall.new) pass.id tracks result }
-    ensures records { H.used_up hall.new ≡ H.used_up hall.old }
+    ensures records { BuildRecords (H.used_up hall.old) (H.used_up hall.new) result }
+    ensures nexts { NextsRise (H.rooms hall.old) (H.rooms hall.new) }
+    ensures spent { BuildSpends (H.rooms hall.new) result }
 {
     for s in tracks.into_vec() {
-        match hall.keep(rt, &mut pass, s) {
-            Ok(_) => {}
-            Err(_) => {
+        match build_track(rt, alloc, hall, &s) {
+            Ok(root) => {
+                hall.publish(rt, &mut pass, s.start, root);
+            }
+            Err(fault) => {
                 hall.abandon(rt, pass);
-                return None;
+                return Err(fault);
             }
         }
     }
-    Some(hall.seal(rt, pass))
+    Ok(hall.seal(rt, pass))
 }

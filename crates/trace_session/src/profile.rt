@@ -3,9 +3,10 @@ ghost use Rattle.std.specs.Prelude.{Contains, IfOk, Some, slice_index_or};
 ghost use Rattle.trace_base.specs.Flat.{flat};
 ghost use Rattle.trace_base.specs.Stream.{IsLegal};
 ghost use Rattle.trace_base.specs.declared.stream.TrackStream.{TrackStream};
-ghost use Rattle.hall_trait.specs.History.{info_of, tracks_of};
+ghost use Rattle.node_key.specs.History.{info_of, tracks_of};
+ghost use Rattle.hall_trait.specs.Answers.{NextsRise, RecordsNone};
 ghost use Rattle.hall_trait.specs.Pin.{pin_view, first_id};
-ghost use Rattle.hall_trait.specs.Seat.{IsAtRest};
+ghost use Rattle.node_key.specs.Seat.{IsAtRest};
 ghost use Rattle.request_reader.specs.Requests.{Line};
 ghost use Rattle.session_proto.specs.declared.request.Request.TheVariants.{Flat};
 ghost use Rattle.session_proto.specs.declared.request.Sel.TheVariants as sel;
@@ -14,6 +15,7 @@ ghost use Rattle.session_proto.specs.declared.reply.Reply.TheVariants.{No as Ref
 ghost use Rattle.trace_session.specs.Replies.{streams_of, functions_of, named, profile_reply};
 ghost use Rattle.trace_session.specs.Serving.{Serves};
 
+use builders::published_stream;
 use event_model::flat_of_all;
 use hall_trait::{AskAnswer, Hall, Pin};
 use session_proto::{NamedRow, No, Reply};
@@ -35,8 +37,8 @@ pub fn serve_flat<R: Wait, H: Hall>(
     requires below { a < b }
     requires limit { b ≤ MAX_TIME }
     ensures { Serves H.alone
-        (record { seat = H.seat hall.old; used_up = H.used_up hall.old })
-        (record { seat = H.seat hall.new; used_up = H.used_up hall.new })
+        (record { seat = H.seat hall.old; used_up = H.used_up hall.old; rooms = H.rooms hall.old })
+        (record { seat = H.seat hall.new; used_up = H.used_up hall.new; rooms = H.rooms hall.new })
         (Line (Flat id sel.All a b)) result }
 {
     match hall.ask(rt, AskIds::One(id)) {
@@ -73,38 +75,45 @@ fn pinned_profile<R: Wait, H: Hall>(
         (flat (streams_of seen id) a b))
         ⊎ (result ≡ Refused NoMemory) }
     ensures seat { H.seat hall.new ≡ H.seat hall.old }
-    ensures records { H.used_up hall.new ≡ H.used_up hall.old }
+    ensures records { RecordsNone (H.used_up hall.old) (H.used_up hall.new) }
+    ensures nexts { NextsRise (H.rooms hall.old) (H.rooms hall.new) }
 {
     let Ok(info) = hall.info(rt, pin, 0) else {
         return Reply::No(No::Memory);
     };
-    match profile_over(alloc, hall, pin, info.names.functions.as_slice(), a, b) {
+    match profile_over(rt, alloc, hall, pin, info.names.functions.as_slice(), a, b) {
         Ok(reply) => reply,
         Err(Memory) => Reply::No(No::Memory),
     }
 }
 
 // The profile of the tracks that the pin sees, with these names.
-fn profile_over<H: Hall>(
+fn profile_over<R: Wait, H: Hall>(
+    rt: &R,
     alloc: Global,
-    hall: &H,
+    hall: &mut H,
     pin: &Pin,
     functions: &[Name],
     a: u64,
     b: u64,
 ) -> Result<Reply, Memory>
-    requires has { Contains (H.seat hall.now).pins (pin_view pin.now) }
-    requires tracks { pin.now.first.tracks ≡ tracks_of (take pin.now.place (H.seat hall.now).seen)
+    requires has { Contains (H.seat hall.old).pins (pin_view pin.now) }
+    requires tracks { pin.now.first.tracks ≡ tracks_of (take pin.now.place (H.seat hall.old).seen)
         (first_id pin.now.ids) }
     requires few { pin.now.first.tracks ≤ MAX_TRACKS }
     requires below { a < b }
     requires limit { b ≤ MAX_TIME }
-    ensures { let streams = streams_of (take pin.now.place (H.seat hall.now).seen) (first_id pin.now.ids) in
+    ensures reply { let streams = streams_of (take pin.now.place (H.seat hall.old).seen)
+        (first_id pin.now.ids) in
         IfOk result (λ r. r ≡ profile_reply (length streams) functions.now pin.now.place (flat streams a b)) }
+    ensures seat { H.seat hall.new ≡ H.seat hall.old }
+    ensures records { RecordsNone (H.used_up hall.old) (H.used_up hall.new) }
+    ensures nexts { NextsRise (H.rooms hall.old) (H.rooms hall.new) }
 {
-    let streams = published_streams(alloc, hall, pin)?;
+    let streams = published_streams(rt, alloc, hall, pin)?;
     let over = streams.len() as u32;
-    let profile = flat_of_all(alloc, streams.as_slice(), a, b)?;
+    let all = references(alloc, streams.as_slice())?;
+    let profile = flat_of_all(alloc, all.as_slice(), a, b)?;
     let rows = named_rows(alloc, profile.rows.as_slice(), functions)?;
     Ok(Reply::Flat {
         over,
@@ -114,28 +123,45 @@ fn profile_over<H: Hall>(
     })
 }
 
-// The streams of the tracks that the pin sees published.
+// The streams of the tracks that the pin sees published, read back from their nodes.
 #[tactic(auto, unfolding(crate::specs::Replies::streams_of))]
-fn published_streams<'a, H: Hall>(
+fn published_streams<R: Wait, H: Hall>(
+    rt: &R,
     alloc: Global,
-    hall: &'a H,
+    hall: &mut H,
     pin: &Pin,
-) -> Result<Vec<&'a TrackStream>, Memory>
-    requires has { Contains (H.seat hall.now).pins (pin_view pin.now) }
-    requires tracks { pin.now.first.tracks ≡ tracks_of (take pin.now.place (H.seat hall.now).seen)
+) -> Result<Vec<TrackStream>, Memory>
+    requires has { Contains (H.seat hall.old).pins (pin_view pin.now) }
+    requires tracks { pin.now.first.tracks ≡ tracks_of (take pin.now.place (H.seat hall.old).seen)
         (first_id pin.now.ids) }
-    ensures streams { IfOk result (λ v. map (λ s. s.now) v.items ≡ streams_of
-        (take pin.now.place (H.seat hall.now).seen) (first_id pin.now.ids)) }
+    ensures streams { IfOk result (λ v. v.items ≡ streams_of (take pin.now.place (H.seat hall.old).seen)
+        (first_id pin.now.ids)) }
     ensures few { IfOk result (λ v. length v.items ≤ pin.now.first.tracks) }
-    ensures legal { IfOk result (λ v. All (λ s. IsLegal s.now) v.items) }
+    ensures legal { IfOk result (λ v. All IsLegal v.items) }
+    ensures seat { H.seat hall.new ≡ H.seat hall.old }
+    ensures records { RecordsNone (H.used_up hall.old) (H.used_up hall.new) }
+    ensures nexts { NextsRise (H.rooms hall.old) (H.rooms hall.new) }
 {
     let mut streams = Vec::new(alloc);
     for track in 0..pin.first.tracks {
-        if let Some(s) = hall.stream(pin, track) {
+        if let Some(s) = published_stream(rt, alloc, hall, pin, track)? {
             streams.push(s)?;
         }
     }
     Ok(streams)
+}
+
+// References to the streams.
+fn references<'a>(alloc: Global, streams: &'a [TrackStream]) -> Result<Vec<&'a TrackStream>, Memory>
+    requires { All IsLegal streams.now }
+    ensures same { IfOk result (λ v. map (λ s. s.now) v.items ≡ streams.now) }
+    ensures legal { IfOk result (λ v. All (λ s. IsLegal s.now) v.items) }
+{
+    let mut all = Vec::new(alloc);
+    for s in streams {
+        all.push(s)?;
+    }
+    Ok(all)
 }
 
 // The rows with the names of their functions.

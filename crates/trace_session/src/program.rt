@@ -2,11 +2,12 @@ ghost use Rattle.std.specs.Prelude.{◌≡◌, ◌≢◌, ◌++◌, ◌∷◌, [
 ghost use Rattle.std.specs.Prelude.{map};
 ghost use Rattle.trace_base.specs.Outside.{Rose, Told};
 ghost use Rattle.trace_session.specs.Output.{WritesFront};
-ghost use Rattle.trace_session.specs.Run.{RunsBatch, usage_text, status_of};
+ghost use Rattle.trace_session.specs.Run.{RunsBatch, usage_text};
 
 use crate::buffer::SessionBuf;
+use crate::finish::{FAULT, tell_left};
 use crate::output::{WriteFailed, write_all};
-use crate::sessions::{End, session};
+use crate::sessions::session;
 use plain_hall::PlainHall;
 use std::alloc::Global;
 use std::sync::Wait;
@@ -15,24 +16,20 @@ use trace_base::{Sink, Source};
 /// The status where the words aren't known.
 const UNKNOWN_WORDS: u8 = 2;
 
-/// The status where the source or the sink failed.
-const FAULT: u8 = 3;
-
 /// The status where no memory was found before anything was read or written.
 const NO_MEMORY: u8 = 5;
-
-/// The status where the input ended inside a request.
-const CUT: u8 = 6;
 
 /// The words that the program knows.
 const USAGE: &str =
     "usage: cccgd batch, cccgd serve <addr> <workers> <each>, cccgd gen <seed> <size>\n";
 
-/// The whole program, for the words behind its own name. `batch` serves one session over a new hall. The
-/// answer is the exit status: 0 where the session ended behind QUIT or at the end of the input between two
-/// requests, and all was written; 2 where the words aren't known and the usage line was written; 3 where the
-/// output failed, or in `batch` the input; 5 where no memory was found for the hall or the buffers, and
-/// nothing was read or written; 6 where the input ended inside a request.
+/// The whole program, for the words behind its own name. `batch` serves one session over a new hall, and
+/// writes behind its replies the line `LEFT traces nodes`: how many traces are open then, and how many
+/// different subtrees the trees of their tracks have. Where the output failed in the session that line isn't
+/// written. The answer is the exit status: 0 where the session ended behind QUIT or at the end of the input
+/// between two requests, and all was written; 2 where the words aren't known and the usage line was written;
+/// 3 where the output failed, or in `batch` the input; 5 where no memory was found for the hall or the
+/// buffers, and nothing was read or written; 6 where the input ended inside a request, and all was written.
 pub fn run<R: Wait, I: Source, O: Sink>(
     rt: &R,
     alloc: Global,
@@ -62,7 +59,8 @@ pub fn run<R: Wait, I: Source, O: Sink>(
     let Ok(mut buf) = SessionBuf::new(alloc) else {
         return NO_MEMORY;
     };
-    status(session(rt, alloc, &mut hall, input, output, &mut buf))
+    let end = session(rt, alloc, &mut hall, input, output, &mut buf);
+    tell_left(output, hall.left(), end, &mut buf.reply)
 }
 
 // Whether the one word is `batch`.
@@ -86,16 +84,5 @@ fn usage<O: Sink>(output: &mut O) -> u8
     match write_all(output, USAGE.as_bytes()) {
         Ok(()) => UNKNOWN_WORDS,
         Err(WriteFailed) => FAULT,
-    }
-}
-
-// The exit status for the end of a session.
-fn status(end: End) -> u8
-    ensures { result ≡ status_of end }
-{
-    match end {
-        End::Quit | End::Eof => 0,
-        End::Cut => CUT,
-        End::ReadFault | End::WriteFault => FAULT,
     }
 }

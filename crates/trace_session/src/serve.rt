@@ -1,5 +1,5 @@
 ghost use Rattle.std.specs.Prelude.{◌≡◌, None};
-ghost use Rattle.hall_trait.specs.Seat.{IsAtRest};
+ghost use Rattle.node_key.specs.Seat.{IsAtRest};
 ghost use Rattle.session_proto.specs.Request.{text_length, IsWithinLimits};
 ghost use Rattle.request_reader.specs.Incoming.{Is, ComesWithinLimits};
 ghost use Rattle.request_reader.specs.Requests.{WholeRequest, Line};
@@ -25,8 +25,9 @@ pub fn serve<R: Wait, H: Hall>(
     requires rest { IsAtRest (H.seat hall.old) }
     requires limits { ComesWithinLimits incoming text.now }
     ensures { (request : WholeRequest) → Is incoming text.now request → Serves H.alone
-        (record { seat = H.seat hall.old; used_up = H.used_up hall.old })
-        (record { seat = H.seat hall.new; used_up = H.used_up hall.new }) request result }
+        (record { seat = H.seat hall.old; used_up = H.used_up hall.old; rooms = H.rooms hall.old })
+        (record { seat = H.seat hall.new; used_up = H.used_up hall.new; rooms = H.rooms hall.new })
+        request result }
 {
     match incoming {
         Incoming::Line(request) => serve_line(rt, alloc, hall, request),
@@ -44,8 +45,9 @@ fn serve_line<R: Wait, H: Hall>(rt: &R, alloc: Global, hall: &mut H, request: Re
     requires no_text { text_length request ≡ None }
     requires limits { IsWithinLimits request }
     ensures { Serves H.alone
-        (record { seat = H.seat hall.old; used_up = H.used_up hall.old })
-        (record { seat = H.seat hall.new; used_up = H.used_up hall.new }) (Line request) result }
+        (record { seat = H.seat hall.old; used_up = H.used_up hall.old; rooms = H.rooms hall.old })
+        (record { seat = H.seat hall.new; used_up = H.used_up hall.new; rooms = H.rooms hall.new })
+        (Line request) result }
 {
     match request {
         Request::Put(_) => unreachable!(),

@@ -1,6 +1,6 @@
 ghost use Rattle.std.specs.Prelude.{◌≡◌, ◌≤◌, ℕ, Some, IsSome};
 ghost use Rattle.trace_base.specs.Outside.{Rose};
-ghost use Rattle.hall_trait.specs.Seat.{IsAtRest};
+ghost use Rattle.node_key.specs.Seat.{IsAtRest};
 ghost use Rattle.request_reader.specs.Incoming.{left_to_read};
 ghost use Rattle.request_reader.specs.Requests.{first_request};
 ghost use Rattle.trace_session.specs.Session.{IsSession};
@@ -44,15 +44,16 @@ pub fn session<R: Wait, H: Hall, I: Source, O: Sink>(
     requires { IsAtRest (H.seat hall.old) }
     ensures session { IsSession H.alone
         (record {
-          backend = record { seat = H.seat hall.old; used_up = H.used_up hall.old };
+          backend = record { seat = H.seat hall.old; used_up = H.used_up hall.old; rooms = H.rooms hall.old };
           left = I.left input.old;
           held = O.held output.old;
         })
         (record {
-          backend = record { seat = H.seat hall.new; used_up = H.used_up hall.new };
+          backend = record { seat = H.seat hall.new; used_up = H.used_up hall.new; rooms = H.rooms hall.new };
           left = I.left input.new;
           held = O.held output.new;
         }) result }
+    ensures later { O.faults output.old ≤ O.faults output.new }
     ensures read_fault { result ≡ ReadFault → Rose (I.faults input.old) (I.faults input.new) }
     ensures write_fault { result ≡ WriteFault → Rose (O.faults output.old) (O.faults output.new) }
 {
@@ -78,12 +79,12 @@ fn step<R: Wait, H: Hall, I: Source, O: Sink>(
     requires { IsAtRest (H.seat hall.old) }
     ensures steps { Steps H.alone
         (record {
-          backend = record { seat = H.seat hall.old; used_up = H.used_up hall.old };
+          backend = record { seat = H.seat hall.old; used_up = H.used_up hall.old; rooms = H.rooms hall.old };
           left = left_to_read buf.old.input.pending (I.left input.old);
           held = O.held output.old;
         })
         (record {
-          backend = record { seat = H.seat hall.new; used_up = H.used_up hall.new };
+          backend = record { seat = H.seat hall.new; used_up = H.used_up hall.new; rooms = H.rooms hall.new };
           left = left_to_read buf.new.input.pending (I.left input.new);
           held = O.held output.new;
         })

@@ -2,6 +2,7 @@
 ghost use Rattle.std.specs.Prelude.{◌≤◌};
 
 use crate::{End, SessionBuf, run, session};
+use node_key::{Left, MAX_NUMBERS};
 use plain_hall::PlainHall;
 use std::alloc::Global;
 use std::cell::RefCell;
@@ -344,25 +345,177 @@ fn other_words_have_status_2_and_the_usage_line(rt: HostRuntime) -> Result<(), F
     Ok(())
 }
 
+// What `batch` writes for this input, and its status.
+fn batch(
+    rt: &impl Wait,
+    alloc: Global,
+    text: &[u8],
+    source_fails: &[u64],
+    sink_fails: &[u64],
+) -> Result<(u8, Vec<u8>), Fail> {
+    let mut input = MemSource::new(
+        Seq::from_slice(alloc, text)?,
+        Seq::from_slice(alloc, source_fails)?,
+    );
+    ran(rt, alloc, &["batch"], &mut input, sink_fails)
+}
+
+// Where the sink fails, nothing more is written: not the line that tells what is left either.
 #[test]
-fn batch_has_the_status_of_its_end(rt: HostRuntime) -> Result<(), Fail> {
+fn batch_tells_what_is_left_and_has_the_status_of_its_end(rt: HostRuntime) -> Result<(), Fail> {
     let alloc = rt.alloc();
-    let rows: [(&[u8], &[u64], &[u64], u8); 6] = [
-        (b"", &[], &[], 0),
-        (b"QUIT\n", &[], &[], 0),
-        (b"LIST\n", &[], &[], 0),
-        (b"LIS", &[], &[], 6),
-        (b"", &[0], &[], 3),
-        (b"QUIT\n", &[], &[0], 3),
+    let rows: [(&str, &[u64], &[u64], u8, &str); 10] = [
+        ("", &[], &[], 0, "LEFT 0 0\n"),
+        ("QUIT\n", &[], &[], 0, "OK QUIT\nLEFT 0 0\n"),
+        ("LIST\n", &[], &[], 0, "NO 10\nLEFT 0 0\n"),
+        ("PUT 0\n", &[], &[], 0, "OK PUT 1 0 0 0 @2\nLEFT 1 0\n"),
+        ("LIS", &[], &[], 6, "LEFT 0 0\n"),
+        ("", &[0], &[], 3, "LEFT 0 0\n"),
+        ("QUIT\n", &[], &[0], 3, ""),
+        ("QUIT\n", &[], &[1], 3, "OK QUIT\n"),
+        ("LIS", &[], &[0], 3, ""),
+        ("", &[0], &[0], 3, ""),
     ];
-    for (text, source_fails, sink_fails, wanted) in rows {
-        let mut input = MemSource::new(
-            Seq::from_slice(alloc, text)?,
-            Seq::from_slice(alloc, source_fails)?,
-        );
-        let (status, _) = ran(&rt, alloc, &["batch"], &mut input, sink_fails)?;
+    for (text, source_fails, sink_fails, wanted, told) in rows {
+        let (status, written) = batch(&rt, alloc, text.as_bytes(), source_fails, sink_fails)?;
         assert_eq!(rt; status, wanted, "for {text:?}");
+        assert_eq!(rt; written.as_slice(), told.as_bytes(), "for {text:?}");
     }
+    Ok(())
+}
+
+// The two calls of f are one node; the others are main and the root.
+#[test]
+fn the_first_session_whole(rt: HostRuntime) -> Result<(), Fail> {
+    let alloc = rt.alloc();
+    let text = first_session(alloc)?;
+    let (status, written) = batch(&rt, alloc, text.as_bytes(), &[], &[])?;
+    let want = format!(in alloc; "{REPLIES}LEFT 1 3\n")?;
+    assert_eq!(rt; status, 0);
+    assert_eq!(rt; written.as_slice(), want.as_bytes());
+    let (status, written) = batch(&rt, alloc, text.as_bytes(), &[0], &[])?;
+    assert_eq!(rt; status, 3);
+    assert_eq!(rt; written.as_slice(), b"LEFT 0 0\n".as_slice());
+    let (status, written) = batch(&rt, alloc, text.as_bytes(), &[], &[0])?;
+    assert_eq!(rt; status, 3);
+    assert_eq!(rt; written.len(), 0);
+    Ok(())
+}
+
+// A trace in which main runs for a second, and calls f at each of these hundredths of a second for half of
+// one. They are written with this digit behind them.
+fn calls_of_f(alloc: Global, from: u32, to: u32, digit: &str) -> Result<String, Fail> {
+    let mut text = format!(in alloc; "{HEAD}2 0 p0 P 0 \"rank 0\"\n4 0 S p0 main\n")?;
+    for i in from..to {
+        let call = format!(in alloc; "4 0.{i}{digit} S p0 f\n5 0.{i}5 S p0\n")?;
+        text.push_str(call.as_str())?;
+    }
+    text.push_str("5 1 S p0\n3 1 P p0\n")?;
+    Ok(text)
+}
+
+// What is left of nine calls: f, a group of eight, main, the root; and of 65: f, a group of f, a group of
+// groups, main, the root.
+#[test]
+fn groups_of_equal_calls(rt: HostRuntime) -> Result<(), Fail> {
+    let alloc = rt.alloc();
+    let rows = [
+        (
+            calls_of_f(alloc, 1, 10, "0")?,
+            879,
+            "1 1 1000000000 550000000 main\n2 9 450000000 450000000 f\nLEFT 1 4\n",
+        ),
+        (
+            calls_of_f(alloc, 10, 75, "")?,
+            2400,
+            "1 1 1000000000 675000000 main\n2 65 325000000 325000000 f\nLEFT 1 5\n",
+        ),
+    ];
+    for (trace, len, told) in &rows {
+        assert_eq!(rt; trace.len(), *len);
+        let text = format!(in alloc; "PUT {len}\n{trace}FLAT 1 * 0 1000000000\n")?;
+        let (status, written) = batch(&rt, alloc, text.as_bytes(), &[], &[])?;
+        let want = format!(in alloc; "OK PUT 1 1 2 0 @3\nOK FLAT 2 1 0 @4\n{told}")?;
+        assert_eq!(rt; status, 0);
+        assert_eq!(rt; written.as_slice(), want.as_bytes());
+    }
+    Ok(())
+}
+
+/// The trace of `CALLS` one second later.
+const LATER_CALLS: &str =
+    "2 1 p0 P 0 \"rank 0\"\n4 1 S p0 main\n4 1.1 S p0 f\n5 1.2 S p0\n4 1.3 S p0 f\n5 1.4 S p0\n5 1.5 S p0\n3 1.5 P p0\n";
+
+/// The same with the second call of f 16 nanoseconds later.
+const SHIFTED_CALLS: &str =
+    "2 1 p0 P 0 \"rank 0\"\n4 1 S p0 main\n4 1.1 S p0 f\n5 1.2 S p0\n4 1.300000016 S p0 f\n5 1.400000016 S p0\n5 1.5 S p0\n3 1.5 P p0\n";
+
+// Equal trees are stored once, whenever their tracks start. Where a gap differs, only f is shared.
+#[test]
+fn what_two_traces_share(rt: HostRuntime) -> Result<(), Fail> {
+    let alloc = rt.alloc();
+    let rows = [
+        (CALLS, 697, "LEFT 2 3\n"),
+        (LATER_CALLS, 697, "LEFT 2 3\n"),
+        (SHIFTED_CALLS, 713, "LEFT 2 5\n"),
+    ];
+    for (second, len, told) in rows {
+        assert_eq!(rt; HEAD.len().saturating_add(second.len()), len);
+        let text = format!(in alloc; "PUT 697\n{HEAD}{CALLS}PUT {len}\n{HEAD}{second}")?;
+        let (status, written) = batch(&rt, alloc, text.as_bytes(), &[], &[])?;
+        let want = format!(in alloc; "OK PUT 1 1 2 0 @3\nOK PUT 2 1 2 0 @6\n{told}")?;
+        assert_eq!(rt; status, 0);
+        assert_eq!(rt; written.as_slice(), want.as_bytes());
+    }
+    Ok(())
+}
+
+// Of a PUT that is cut nothing is left, and what was there before stays.
+#[test]
+fn a_cut_put_leaves_what_was_there(rt: HostRuntime) -> Result<(), Fail> {
+    let alloc = rt.alloc();
+    let text = format!(in alloc; "PUT 697\n{HEAD}{CALLS}PUT 697\n{HEAD}{LATER_CALLS}")?;
+    for cut in [706, 720, 1400, 1409] {
+        let given = Vec::from_slice(alloc, &text.as_bytes()[..cut])?;
+        let (status, written) = batch(&rt, alloc, given.as_slice(), &[], &[])?;
+        assert_eq!(rt; status, 6, "cut at {cut}");
+        assert_eq!(rt;
+            written.as_slice(),
+            b"OK PUT 1 1 2 0 @3\nLEFT 1 3\n".as_slice(),
+            "cut at {cut}"
+        );
+    }
+    Ok(())
+}
+
+// Each of the 16 rooms of the store has one number left, and the trace has 18 different subtrees: 17 calls in
+// one another, and the root. So its load is given up on the way. The trace before it stays.
+#[test]
+fn a_load_that_uses_up_the_numbers(rt: HostRuntime) -> Result<(), Fail> {
+    let alloc = rt.alloc();
+    let mut trace = format!(in alloc; "{HEAD}2 0 p0 P 0 \"rank 0\"\n")?;
+    for _ in 0..17u32 {
+        trace.push_str("4 0 S p0 f\n")?;
+    }
+    let len = trace.len();
+    let text = format!(in alloc; "PUT 0\nPUT {len}\n{trace}FLAT 2 * 0 1\n")?;
+    let mut hall = PlainHall::starting_at(alloc, MAX_NUMBERS - 1)?;
+    let mut buf = SessionBuf::new(alloc)?;
+    let mut input = MemSource::new(Seq::from_slice(alloc, text.as_bytes())?, Seq::new(alloc));
+    let mut output = MemSink::new(alloc, 100, Seq::new(alloc));
+    let end = session(&rt, alloc, &mut hall, &mut input, &mut output, &mut buf);
+    assert_eq!(rt; end, End::Eof);
+    assert_eq!(rt;
+        output.written(),
+        b"OK PUT 1 0 0 0 @2\nNO 40 1099511627776\nNO 30 2 @5\n".as_slice()
+    );
+    assert_eq!(rt;
+        hall.left(),
+        Left {
+            traces: 1,
+            nodes: 0,
+        }
+    );
     Ok(())
 }
 

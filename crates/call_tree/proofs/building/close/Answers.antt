@@ -5,7 +5,7 @@ use Rattle.node_key.specs.Items.{FitBetween}
 use Rattle.node_key.specs.declared.item.Item.{Item}
 use Rattle.node_key.specs.declared.limits.TheConstants.{HEIGHT_BOUND, MAX_HEIGHT, MAX_KIDS}
 use Rattle.trace_base.specs.declared.limits.TheConstants.{MAX_TIME}
-use Rattle.call_tree.specs.Bound.{bound}
+use Rattle.node_key.specs.Bound.{bound}
 use Rattle.call_tree.proofs.Fits.{FitBetween-lower, FitBetween-upper, FitBetween-bound, Low-bound}
 use Rattle.call_tree.proofs.Fits.{length-bound-le}
 use Rattle.call_tree.proofs.building.close.Goals as goal

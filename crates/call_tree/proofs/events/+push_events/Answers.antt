@@ -1,6 +1,6 @@
 use Rattle.std.proofs.Common.{ℕ, ◌+◌, ◌++◌, slice_get, arith, ap}
 use Rattle.node_key.specs.Branches.{branches}
-use Rattle.call_tree.specs.Events.{events_below}
+use Rattle.node_key.specs.Events.{events_below}
 use Rattle.call_tree.proofs.Below.{branch_is, nodes-branch, Writing-start, Writing-next}
 use Rattle.call_tree.proofs.Below.{Writing-step, Writing-end}
 use Rattle.call_tree.proofs.Below.{events-written}

@@ -1,6 +1,6 @@
 use Rattle.std.proofs.Common.{◌+◌, ◌++◌}
 use Rattle.node_key.specs.Tree.{nodes}
-use Rattle.call_tree.specs.Events.{events_below}
+use Rattle.node_key.specs.Events.{events_below}
 use Rattle.call_tree.proofs.Below.{Writing}
 use Rattle.call_tree.proofs.events.+push_events.Given as goal
 

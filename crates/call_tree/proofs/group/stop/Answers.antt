@@ -1,7 +1,7 @@
 use Rattle.std.proofs.Common.{◌≡◌, ◌+◌, ◌-◌, length, arith, ap}
 use Rattle.node_key.specs.Items.{end_of}
 use Rattle.trace_base.specs.declared.limits.TheConstants.{MAX_TIME}
-use Rattle.call_tree.specs.Bound.{stop_of}
+use Rattle.node_key.specs.Bound.{stop_of}
 use Rattle.call_tree.proofs.Chunks.{stop_of-last}
 use Rattle.call_tree.proofs.Fits.{last_end-le, stop_of-last_end}
 use Rattle.call_tree.proofs.group.stop.Goals as goal

@@ -1,5 +1,5 @@
 use Rattle.std.proofs.Common.{◌≡◌, refl, arith}
-use Rattle.hall_trait.specs.History.{Opened, opened_ids, open_ids}
+use Rattle.node_key.specs.History.{Opened, opened_ids}
 use Rattle.hall_trait.specs.Examples.{bare, doubled}
 use Rattle.hall_trait.proofs.examples.unlawful_openings.Goals as goal
 

@@ -10,7 +10,11 @@ pub returns-in-Ok-clause-answers : goal.returns-in-Ok-clause-answers
 returns-in-Ok-clause-answers g c = λ request is left.
     let text = c.reply_into.new.out.items in
     let old : SessionState = record {
-      backend = record { seat = g.H.Hall.seat c.args.hall.now; used_up = g.H.Hall.used_up c.args.hall.now };
+      backend = record {
+        seat = g.H.Hall.seat c.args.hall.now;
+        used_up = g.H.Hall.used_up c.args.hall.now;
+        rooms = g.H.Hall.rooms c.args.hall.now;
+      };
       left = left;
       held = g.O.Sink.held c.args.output.now;
     } in
@@ -18,6 +22,7 @@ returns-in-Ok-clause-answers g c = λ request is left.
       backend = record {
         seat = g.H.Hall.seat c.serve-reply.new.hall;
         used_up = g.H.Hall.used_up c.serve-reply.new.hall;
+        rooms = g.H.Hall.rooms c.serve-reply.new.hall;
       };
       left = left;
       held = g.O.Sink.held c.write_all.new.output;
@@ -33,7 +38,11 @@ pub returns-clause-answers : goal.returns-clause-answers
 returns-clause-answers g c = λ request is left.
     let text = c.reply_into.new.out.items in
     let old : SessionState = record {
-      backend = record { seat = g.H.Hall.seat c.args.hall.now; used_up = g.H.Hall.used_up c.args.hall.now };
+      backend = record {
+        seat = g.H.Hall.seat c.args.hall.now;
+        used_up = g.H.Hall.used_up c.args.hall.now;
+        rooms = g.H.Hall.rooms c.args.hall.now;
+      };
       left = left;
       held = g.O.Sink.held c.args.output.now;
     } in
@@ -41,6 +50,7 @@ returns-clause-answers g c = λ request is left.
       backend = record {
         seat = g.H.Hall.seat c.serve-reply.new.hall;
         used_up = g.H.Hall.used_up c.serve-reply.new.hall;
+        rooms = g.H.Hall.rooms c.serve-reply.new.hall;
       };
       left = left;
       held = g.O.Sink.held c.write_all.new.output;

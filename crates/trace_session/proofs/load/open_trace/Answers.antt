@@ -1,14 +1,19 @@
-use Rattle.std.proofs.Common.{◌≡◌, ℕ, length, Option, Result, Err, sym, ap, ◌∙◌, subst}
+use Rattle.std.proofs.Common.{◌≡◌, ℕ, length, Result, sym, ap, ◌∙◌, subst}
 use Rattle.std.specs.Arc.{arc_value}
 use Rattle.trace_base.specs.Messages.{table_of}
 use Rattle.trace_base.specs.declared.messages.MsgTable.{MsgTable}
 use Rattle.trace_base.specs.declared.names.TraceInfo.{TraceInfo}
 use Rattle.hall_trait.specs.Answers.{Admits, AdmitRecords, OpensTrace}
 use Rattle.hall_trait.specs.declared.answers.HallFault.{HallFault}
-use Rattle.hall_trait.specs.declared.answers.HallFault.TheVariants as fault
 use Rattle.hall_trait.specs.declared.pass.LoadPass.{LoadPass}
 use Rattle.paje_lines.specs.Text.{info_of_text}
+use Rattle.session_proto.specs.declared.reply.Reply.{Reply}
+use Rattle.request_reader.specs.Requests.{Load}
+use Rattle.builders.specs.Builds.{BuildRecords}
+use Rattle.builders.specs.Spending.{BuildSpends}
 use Rattle.trace_session.specs.Load.{Publishes}
+use Rattle.trace_session.specs.Serving.{Serves}
+use Rattle.builders.proofs.Spending.{nexts_then}
 use Rattle.trace_session.specs.State.{Backend}
 use Rattle.trace_session.proofs.Opening.{put_memory, Serves-opened, Serves-dropped, Serves-refused}
 use Rattle.trace_session.proofs.Opening.{info_made, table_made}
@@ -19,6 +24,7 @@ returns-in_default g c = λ text form.
     let old : Backend = record {
       seat = g.H.Hall.seat c.args.hall.now;
       used_up = g.H.Hall.used_up c.args.hall.now;
+      rooms = g.H.Hall.rooms c.args.hall.now;
     } in put_memory g.H.Hall.alone old text c.requires.rest
 
 pub returns-in_default-new : goal.returns-in_default-new
@@ -26,6 +32,7 @@ returns-in_default-new g c = λ text form.
     let old : Backend = record {
       seat = g.H.Hall.seat c.args.hall.now;
       used_up = g.H.Hall.used_up c.args.hall.now;
+      rooms = g.H.Hall.rooms c.args.hall.now;
     } in put_memory g.H.Hall.alone old text c.requires.rest
 
 pub publish_all-requires-clause-tracks : goal.publish_all-requires-clause-tracks
@@ -45,111 +52,91 @@ publish_all-requires-clause-tracks g c =
       fit = c.requires.fits;
     }
 
-pub returns-in-Some : goal.returns-in-Some
-returns-in-Some g c = λ text form.
+pub returns-in-Ok-publish_all : goal.returns-in-Ok-publish_all
+returns-in-Ok-publish_all g c = λ text form.
     let old : Backend = record {
       seat = g.H.Hall.seat c.args.hall.now;
       used_up = g.H.Hall.used_up c.args.hall.now;
+      rooms = g.H.Hall.rooms c.args.hall.now;
     } in
     let new : Backend = record {
       seat = g.H.Hall.seat c.publish_all.new.hall;
       used_up = g.H.Hall.used_up c.publish_all.new.hall;
+      rooms = g.H.Hall.rooms c.publish_all.new.hall;
     } in
     let mid = g.H.Hall.seat c.admit.new.self in
-    let let_in = subst (λ (r : Result LoadPass HallFault). Admits g.H.Hall.alone
-    (g.H.Hall.seat c.args.hall.now)
-    mid (arc_value c.in-Ok-new.info) r) c.in-Ok-admit.is c.admit.ensures.answer in
-    let is_in = subst (λ (i : TraceInfo). OpensTrace g.H.Hall.alone (g.H.Hall.seat c.args.hall.now) mid i
-    c.in-Ok-admit.pass) (info_made c.args.trace (arc_value c.in-Ok-new.info)
-    c.in-Ok.messages c.as_slice.result.now c.in-Ok-new.ensures.ok c.in-Ok.ensures c.as_slice.ensures)
-    let_in in
-    let told = subst (λ (r : Result LoadPass HallFault). AdmitRecords old.used_up
-    (g.H.Hall.used_up c.admit.new.self)
-    r) c.in-Ok-admit.is c.admit.ensures.records in
-    let published = subst (λ (r : Option ℕ). Publishes g.H.Hall.alone mid new.seat c.in-Ok-admit.pass.id
-    c.args.trace.tracks r) c.in-Some.is c.publish_all.ensures.published in
-    let served = Serves-opened g.H.Hall.alone old new mid text c.args.trace c.in-Ok-admit.pass c.in-Some.place
-    form is_in published (c.publish_all.ensures.records ∙ told) in
+    let used = g.H.Hall.used_up c.admit.new.self in
+    let let_in = subst (λ (r : Result LoadPass HallFault). Admits g.H.Hall.alone old.seat mid
+    (arc_value c.in-Ok-new.info) r) c.in-Ok-admit.is c.admit.ensures.answer in
+    let is_in = subst (λ (i : TraceInfo). OpensTrace g.H.Hall.alone old.seat mid i c.in-Ok-admit.pass)
+    (info_made c.args.trace (arc_value c.in-Ok-new.info) c.in-Ok.messages c.as_slice.result.now
+    c.in-Ok-new.ensures.ok c.in-Ok.ensures c.as_slice.ensures) let_in in
+    let told = subst (λ (r : Result LoadPass HallFault). AdmitRecords old.used_up used r) c.in-Ok-admit.is
+    c.admit.ensures.records in
+    let nexts = nexts_then old.rooms (g.H.Hall.rooms c.admit.new.self) new.rooms c.admit.ensures.nexts
+    c.publish_all.ensures.nexts in
+    let published = subst (λ (r : Result ℕ HallFault). Publishes g.H.Hall.alone mid new.seat
+    c.in-Ok-admit.pass.id c.args.trace.tracks r) c.in-Ok-publish_all.is c.publish_all.ensures.published in
+    let records = subst (λ (r : Result ℕ HallFault). BuildRecords used new.used_up r) c.in-Ok-publish_all.is
+    c.publish_all.ensures.records in
+    let served = Serves-opened g.H.Hall.alone old new mid text c.args.trace c.in-Ok-admit.pass
+    c.in-Ok-publish_all.place form is_in published (records ∙ told) nexts in
     let count : c.len-message_count.result ≡ length (table_of c.args.trace.links).messages =
     c.len-message_count.ensures ∙ ap (λ (m : MsgTable). length m.messages)
     (table_made c.args.trace c.in-Ok.messages c.as_slice.result.now c.in-Ok.ensures c.as_slice.ensures) in
     rw (c.id-id.ensures, c.len-track_count.ensures, c.len-functions.ensures, count) served
 
-pub returns-in-Ok-admit : goal.returns-in-Ok-admit
-returns-in-Ok-admit g c = λ text form.
+pub returns-in-Err-publish_all : goal.returns-in-Err-publish_all
+returns-in-Err-publish_all g c = λ text form.
     let old : Backend = record {
       seat = g.H.Hall.seat c.args.hall.now;
       used_up = g.H.Hall.used_up c.args.hall.now;
+      rooms = g.H.Hall.rooms c.args.hall.now;
     } in
     let new : Backend = record {
       seat = g.H.Hall.seat c.publish_all.new.hall;
       used_up = g.H.Hall.used_up c.publish_all.new.hall;
+      rooms = g.H.Hall.rooms c.publish_all.new.hall;
     } in
     let mid = g.H.Hall.seat c.admit.new.self in
-    let let_in = subst (λ (r : Result LoadPass HallFault). Admits g.H.Hall.alone
-    (g.H.Hall.seat c.args.hall.now)
-    mid (arc_value c.in-Ok-new.info) r) c.in-Ok-admit.is c.admit.ensures.answer in
-    let is_in = subst (λ (i : TraceInfo). OpensTrace g.H.Hall.alone (g.H.Hall.seat c.args.hall.now) mid i
-    c.in-Ok-admit.pass) (info_made c.args.trace (arc_value c.in-Ok-new.info)
-    c.in-Ok.messages c.as_slice.result.now c.in-Ok-new.ensures.ok c.in-Ok.ensures c.as_slice.ensures)
-    let_in in
-    let told = subst (λ (r : Result LoadPass HallFault). AdmitRecords old.used_up
-    (g.H.Hall.used_up c.admit.new.self)
-    r) c.in-Ok-admit.is c.admit.ensures.records in
-    let published = subst (λ (r : Option ℕ). Publishes g.H.Hall.alone mid new.seat c.in-Ok-admit.pass.id
-    c.args.trace.tracks r) c.in-None.is c.publish_all.ensures.published in
-    Serves-dropped g.H.Hall.alone old new mid text c.args.trace c.in-Ok-admit.pass form is_in published
-    (c.publish_all.ensures.records ∙ told)
+    let used = g.H.Hall.used_up c.admit.new.self in
+    let let_in = subst (λ (r : Result LoadPass HallFault). Admits g.H.Hall.alone old.seat mid
+    (arc_value c.in-Ok-new.info) r) c.in-Ok-admit.is c.admit.ensures.answer in
+    let is_in = subst (λ (i : TraceInfo). OpensTrace g.H.Hall.alone old.seat mid i c.in-Ok-admit.pass)
+    (info_made c.args.trace (arc_value c.in-Ok-new.info) c.in-Ok.messages c.as_slice.result.now
+    c.in-Ok-new.ensures.ok c.in-Ok.ensures c.as_slice.ensures) let_in in
+    let told = subst (λ (r : Result LoadPass HallFault). AdmitRecords old.used_up used r) c.in-Ok-admit.is
+    c.admit.ensures.records in
+    let nexts = nexts_then old.rooms (g.H.Hall.rooms c.admit.new.self) new.rooms c.admit.ensures.nexts
+    c.publish_all.ensures.nexts in
+    let f = c.in-Err-publish_all.given_up in
+    let published = subst (λ (r : Result ℕ HallFault). Publishes g.H.Hall.alone mid new.seat
+    c.in-Ok-admit.pass.id c.args.trace.tracks r) c.in-Err-publish_all.is c.publish_all.ensures.published in
+    let records = subst (λ (r : Result ℕ HallFault). BuildRecords used new.used_up r) c.in-Err-publish_all.is
+    c.publish_all.ensures.records in
+    let spends = subst (λ (r : Result ℕ HallFault). BuildSpends new.rooms r) c.in-Err-publish_all.is
+    c.publish_all.ensures.spent in
+    subst (λ (r : Reply). Serves g.H.Hall.alone old new (Load text) r) (sym c.refusal.ensures)
+    (Serves-dropped g.H.Hall.alone old new mid used text c.args.trace c.in-Ok-admit.pass f form is_in
+    published
+    told records nexts spends)
 
-pub returns-in-Err-Memory : goal.returns-in-Err-Memory
-returns-in-Err-Memory g c = λ text form.
+pub returns-in-Err : goal.returns-in-Err
+returns-in-Err g c = λ text form.
     let old : Backend = record {
       seat = g.H.Hall.seat c.args.hall.now;
       used_up = g.H.Hall.used_up c.args.hall.now;
+      rooms = g.H.Hall.rooms c.args.hall.now;
     } in
     let new : Backend = record {
       seat = g.H.Hall.seat c.admit.new.self;
       used_up = g.H.Hall.used_up c.admit.new.self;
+      rooms = g.H.Hall.rooms c.admit.new.self;
     } in
-    let result : c.admit.result ≡ Err fault.Memory = c.in-Err-Memory.is ∙ ap Err c.in-Err-Memory.field-0-is in
-    Serves-refused g.H.Hall.alone old new text c.args.trace (arc_value c.in-Ok-new.info) c.admit.result
-    fault.Memory form
-    c.requires.rest (info_made c.args.trace (arc_value c.in-Ok-new.info)
-    c.in-Ok.messages c.as_slice.result.now c.in-Ok-new.ensures.ok c.in-Ok.ensures c.as_slice.ensures)
-    result c.admit.ensures.answer c.admit.ensures.records
-
-pub returns-in-Err-Spent : goal.returns-in-Err-Spent
-returns-in-Err-Spent g c = λ text form.
-    let old : Backend = record {
-      seat = g.H.Hall.seat c.args.hall.now;
-      used_up = g.H.Hall.used_up c.args.hall.now;
-    } in
-    let new : Backend = record {
-      seat = g.H.Hall.seat c.admit.new.self;
-      used_up = g.H.Hall.used_up c.admit.new.self;
-    } in
-    let result : c.admit.result ≡ Err (fault.Spent c.in-Err-Spent.n) = c.in-Err-Spent.is ∙ ap Err
-    c.in-Err-Spent.field-0-is in
-    Serves-refused g.H.Hall.alone old new text c.args.trace (arc_value c.in-Ok-new.info) c.admit.result
-    (fault.Spent c.in-Err-Spent.n) form
-    c.requires.rest (info_made c.args.trace (arc_value c.in-Ok-new.info)
-    c.in-Ok.messages c.as_slice.result.now c.in-Ok-new.ensures.ok c.in-Ok.ensures c.as_slice.ensures)
-    result c.admit.ensures.answer c.admit.ensures.records
-
-pub returns : goal.returns
-returns g c = λ text form.
-    let old : Backend = record {
-      seat = g.H.Hall.seat c.args.hall.now;
-      used_up = g.H.Hall.used_up c.args.hall.now;
-    } in
-    let new : Backend = record {
-      seat = g.H.Hall.seat c.admit.new.self;
-      used_up = g.H.Hall.used_up c.admit.new.self;
-    } in
-    let result : c.admit.result ≡ Err (fault.Full c.in-Err-Full.place) = c.in-Err-Full.is ∙ ap Err
-    c.in-Err-Full.field-0-is in
-    Serves-refused g.H.Hall.alone old new text c.args.trace (arc_value c.in-Ok-new.info) c.admit.result
-    (fault.Full c.in-Err-Full.place) form
-    c.requires.rest (info_made c.args.trace (arc_value c.in-Ok-new.info)
-    c.in-Ok.messages c.as_slice.result.now c.in-Ok-new.ensures.ok c.in-Ok.ensures c.as_slice.ensures)
-    result c.admit.ensures.answer c.admit.ensures.records
+    let f = c.in-Err.refused in
+    subst (λ (r : Reply). Serves g.H.Hall.alone old new (Load text) r) (sym c.refusal-in-Err.ensures)
+    (Serves-refused g.H.Hall.alone old new text c.args.trace (arc_value c.in-Ok-new.info) c.admit.result f
+    form
+    c.requires.rest (info_made c.args.trace (arc_value c.in-Ok-new.info) c.in-Ok.messages
+    c.as_slice.result.now c.in-Ok-new.ensures.ok c.in-Ok.ensures c.as_slice.ensures) c.in-Err.is
+    c.admit.ensures.answer c.admit.ensures.records c.admit.ensures.nexts)

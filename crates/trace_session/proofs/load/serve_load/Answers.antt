@@ -7,6 +7,7 @@ returns-in-Err-Refused g c =
     let old : Backend = record {
       seat = g.H.Hall.seat c.args.hall.now;
       used_up = g.H.Hall.used_up c.args.hall.now;
+      rooms = g.H.Hall.rooms c.args.hall.now;
     } in
     put_refused g.H.Hall.alone old c.args.text.now c.word.result c.in-Err-Refused.field-0
     c.in-Err-Refused.refusal c.requires.rest c.in-Err-Refused.ensures.exact c.in-Err-Refused.field-0-is

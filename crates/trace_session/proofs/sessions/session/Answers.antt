@@ -10,7 +10,11 @@ use Rattle.trace_session.proofs.sessions.session.Goals as goal
 pub requests-init : goal.requests-init
 requests-init g c =
     let old : SessionState = record {
-      backend = record { seat = g.H.Hall.seat c.args.hall.now; used_up = g.H.Hall.used_up c.args.hall.now };
+      backend = record {
+        seat = g.H.Hall.seat c.args.hall.now;
+        used_up = g.H.Hall.used_up c.args.hall.now;
+        rooms = g.H.Hall.rooms c.args.hall.now;
+      };
       left = g.I.Source.left c.args.input.now;
       held = g.O.Sink.held c.args.output.now;
     } in
@@ -24,17 +28,29 @@ requests-init g c =
 pub returns-in-Some-step-clause-session : goal.returns-in-Some-step-clause-session
 returns-in-Some-step-clause-session g c =
     let old : SessionState = record {
-      backend = record { seat = g.H.Hall.seat c.args.hall.now; used_up = g.H.Hall.used_up c.args.hall.now };
+      backend = record {
+        seat = g.H.Hall.seat c.args.hall.now;
+        used_up = g.H.Hall.used_up c.args.hall.now;
+        rooms = g.H.Hall.rooms c.args.hall.now;
+      };
       left = g.I.Source.left c.args.input.now;
       held = g.O.Sink.held c.args.output.now;
     } in
     let now : SessionState = record {
-      backend = record { seat = g.H.Hall.seat c.requests.hall; used_up = g.H.Hall.used_up c.requests.hall };
+      backend = record {
+        seat = g.H.Hall.seat c.requests.hall;
+        used_up = g.H.Hall.used_up c.requests.hall;
+        rooms = g.H.Hall.rooms c.requests.hall;
+      };
       left = left_to_read c.requests.buf.input.pending (g.I.Source.left c.requests.input);
       held = g.O.Sink.held c.requests.output;
     } in
     let new : SessionState = record {
-      backend = record { seat = g.H.Hall.seat c.step.new.hall; used_up = g.H.Hall.used_up c.step.new.hall };
+      backend = record {
+        seat = g.H.Hall.seat c.step.new.hall;
+        used_up = g.H.Hall.used_up c.step.new.hall;
+        rooms = g.H.Hall.rooms c.step.new.hall;
+      };
       left = left_to_read c.step.new.buf.input.pending (g.I.Source.left c.step.new.input);
       held = g.O.Sink.held c.step.new.output;
     } in
@@ -47,17 +63,29 @@ returns-in-Some-step-clause-session g c =
 pub requests-preserved : goal.requests-preserved
 requests-preserved g c =
     let old : SessionState = record {
-      backend = record { seat = g.H.Hall.seat c.args.hall.now; used_up = g.H.Hall.used_up c.args.hall.now };
+      backend = record {
+        seat = g.H.Hall.seat c.args.hall.now;
+        used_up = g.H.Hall.used_up c.args.hall.now;
+        rooms = g.H.Hall.rooms c.args.hall.now;
+      };
       left = g.I.Source.left c.args.input.now;
       held = g.O.Sink.held c.args.output.now;
     } in
     let now : SessionState = record {
-      backend = record { seat = g.H.Hall.seat c.requests.hall; used_up = g.H.Hall.used_up c.requests.hall };
+      backend = record {
+        seat = g.H.Hall.seat c.requests.hall;
+        used_up = g.H.Hall.used_up c.requests.hall;
+        rooms = g.H.Hall.rooms c.requests.hall;
+      };
       left = left_to_read c.requests.buf.input.pending (g.I.Source.left c.requests.input);
       held = g.O.Sink.held c.requests.output;
     } in
     let new : SessionState = record {
-      backend = record { seat = g.H.Hall.seat c.step.new.hall; used_up = g.H.Hall.used_up c.step.new.hall };
+      backend = record {
+        seat = g.H.Hall.seat c.step.new.hall;
+        used_up = g.H.Hall.used_up c.step.new.hall;
+        rooms = g.H.Hall.rooms c.step.new.hall;
+      };
       left = left_to_read c.step.new.buf.input.pending (g.I.Source.left c.step.new.input);
       held = g.O.Sink.held c.step.new.output;
     } in

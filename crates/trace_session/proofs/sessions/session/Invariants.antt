@@ -7,12 +7,20 @@ abbrev pub invariant-requests : goal.invariant-requests
 invariant-requests g l = record {
   sofar : Sofar g.H.Hall.alone
       (record {
-        backend = record { seat = g.H.Hall.seat l.fn.hall; used_up = g.H.Hall.used_up l.fn.hall };
+        backend = record {
+          seat = g.H.Hall.seat l.fn.hall;
+          used_up = g.H.Hall.used_up l.fn.hall;
+          rooms = g.H.Hall.rooms l.fn.hall;
+        };
         left = g.I.Source.left l.fn.input;
         held = g.O.Sink.held l.fn.output;
       })
       (record {
-        backend = record { seat = g.H.Hall.seat l.hall; used_up = g.H.Hall.used_up l.hall };
+        backend = record {
+          seat = g.H.Hall.seat l.hall;
+          used_up = g.H.Hall.used_up l.hall;
+          rooms = g.H.Hall.rooms l.hall;
+        };
         left = left_to_read l.buf.input.pending (g.I.Source.left l.input);
         held = g.O.Sink.held l.output;
       });

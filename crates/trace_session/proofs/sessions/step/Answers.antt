@@ -14,7 +14,11 @@ returns-in-Err-clause-steps g c =
     let pending = c.next_request.new.buf.pending in
     let text = c.next_request.new.buf.text.items in
     let old : SessionState = record {
-      backend = record { seat = g.H.Hall.seat c.args.hall.now; used_up = g.H.Hall.used_up c.args.hall.now };
+      backend = record {
+        seat = g.H.Hall.seat c.args.hall.now;
+        used_up = g.H.Hall.used_up c.args.hall.now;
+        rooms = g.H.Hall.rooms c.args.hall.now;
+      };
       left = left_to_read c.args.buf.now.input.pending (g.I.Source.left c.args.input.now);
       held = g.O.Sink.held c.args.output.now;
     } in
@@ -31,7 +35,11 @@ pub returns-in-Ok-clause-steps : goal.returns-in-Ok-clause-steps
 returns-in-Ok-clause-steps g c =
     let text = c.next_request.new.buf.text.items in
     let old : SessionState = record {
-      backend = record { seat = g.H.Hall.seat c.args.hall.now; used_up = g.H.Hall.used_up c.args.hall.now };
+      backend = record {
+        seat = g.H.Hall.seat c.args.hall.now;
+        used_up = g.H.Hall.used_up c.args.hall.now;
+        rooms = g.H.Hall.rooms c.args.hall.now;
+      };
       left = left_to_read c.args.buf.now.input.pending (g.I.Source.left c.args.input.now);
       held = g.O.Sink.held c.args.output.now;
     } in
@@ -39,6 +47,7 @@ returns-in-Ok-clause-steps g c =
       backend = record {
         seat = g.H.Hall.seat c.answer.new.hall;
         used_up = g.H.Hall.used_up c.answer.new.hall;
+        rooms = g.H.Hall.rooms c.answer.new.hall;
       };
       left = left_to_read b.pending (g.I.Source.left c.next_request.new.input);
       held = g.O.Sink.held c.answer.new.output;

@@ -2,7 +2,7 @@ use Rattle.std.proofs.Common.{◌≡◌, ◌-◌, ◌+◌, [], ◌∷◌, length
 use Rattle.std.proofs.Common.{length-append}
 use Rattle.std.specs.Prelude.{slice_get}
 use Rattle.std.proofs.lemmas.Option.{slice_get_read}
-use Rattle.hall_trait.specs.History.{Published}
+use Rattle.node_key.specs.History.{Published}
 use Rattle.plain_hall.specs.KeptHistory.{history}
 use Rattle.plain_hall.specs.Spots.{IsTraceSpot}
 use Rattle.plain_hall.proofs.Finding.{spots_published}
@@ -30,10 +30,10 @@ invariant_of-self c =
     _ (id - 1) _ refl (omega (arith, was.found.count, c.requires.given)) c.index_mut.ensures.value in
     let next : c.push-place.result ≡ length (history was.past) + 1 =
     c.push-place.ensures.place ∙ ap length c.push-place.ensures.seen ∙ length-append (history was.past)
-    (Published id c.args.track c.args.stream ∷ []) in
+    (Published id c.args.track c.args.root ∷ []) in
     record {
-      found = spots_published _ _ _ _ _ (id - 1) id c.args.track c.args.stream was.spots.items _ _ _
-          c.push-place.ensures.kept c.push-place.ensures.seen (omega (arith, c.requires.given)) here refl
-          c.requires.turn c.requires.fresh c.count-at.ensures next refl refl c.push_reserved.ensures.items
+      found = spots_published _ _ _ _ _ (id - 1) id c.args.track c.args.root was.spots.items _ _ _
+          c.push-place.ensures.kept c.push-place.ensures.seen (omega (arith, c.requires.given)) here
+          c.requires.turn c.requires.fresh refl next refl refl c.push_reserved.ensures.items
           c.push_reserved.ensures.capacity was.found;
     }

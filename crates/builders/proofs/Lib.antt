@@ -1,0 +1,14 @@
+pub mod KeyKids
+pub mod Placed
+pub mod Bags
+pub mod Interning
+pub mod ChunkGroups
+pub mod GroupingItems
+pub mod Counts
+pub mod BoundingItems
+pub mod ClosingCalls
+pub mod PassingCalls
+pub mod BuildingTrack
+pub mod KeyReading
+pub mod PublishedTracks
+pub mod Spending

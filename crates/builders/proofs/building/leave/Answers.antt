@@ -1,0 +1,67 @@
+use Rattle.std.proofs.Common.{refl}
+use Rattle.trace_base.specs.declared.stream.Event.TheVariants.{Leave}
+use Rattle.builders.proofs.PassingCalls.{innermost-gone, leave-closes, left-by, left-passes, paid-leave}
+use Rattle.builders.proofs.Spending.{nexts_then}
+use Rattle.builders.proofs.building.leave.Goals as goal
+
+pub close-requires : goal.close-requires
+close-requires g c = (
+  c.requires.1,
+  leave-closes (g.H.Hall.seat c.args.hall.now) c.args.around.now.items c.args.innermost c.args.stop
+      c.requires.0
+      c.requires.1 c.requires.2,
+)
+
+pub returns-in-Err-clause-answer : goal.returns-in-Err-clause-answer
+returns-in-Err-clause-answer g c calls call held =
+    innermost-gone (g.H.Hall.seat c.args.hall.now) (g.H.Hall.seat c.close.new.hall) c.args.around.now.items
+    c.args.around.now.items c.args.innermost (Leave c.args.stop) c.in-Err.fault calls call held refl
+    (c.in-Err.ensures.answer call
+    (leave-closes (g.H.Hall.seat c.args.hall.now) c.args.around.now.items c.args.innermost c.args.stop calls
+    call
+    held))
+
+pub with_item-requires : goal.with_item-requires
+with_item-requires g c =
+    let left = left-by (g.H.Hall.seat c.args.hall.now) (g.H.Hall.seat c.close.new.hall)
+    c.args.around.now.items
+    c.pop.new.self.items c.args.innermost c.in-Some.outer c.in-Ok.item c.args.stop c.requires.0 c.requires.1
+    c.requires.2 c.in-Some.ensures.items (c.in-Ok.ensures.answer c.requires.1
+    (leave-closes (g.H.Hall.seat c.args.hall.now) c.args.around.now.items c.args.innermost c.args.stop
+    c.requires.0
+    c.requires.1 c.requires.2)) in
+    (left.last, left.one, left.held)
+
+pub returns-clause-answer : goal.returns-clause-answer
+returns-clause-answer g c calls call held =
+    let left = left-by (g.H.Hall.seat c.args.hall.now) (g.H.Hall.seat c.close.new.hall)
+    c.args.around.now.items
+    c.pop.new.self.items c.args.innermost c.in-Some.outer c.in-Ok.item c.args.stop calls call
+    held c.in-Some.ensures.items (c.in-Ok.ensures.answer call
+    (leave-closes (g.H.Hall.seat c.args.hall.now) c.args.around.now.items c.args.innermost c.args.stop calls
+    call held)) in
+    left-passes (g.H.Hall.seat c.args.hall.now) (g.H.Hall.seat c.close.new.hall)
+    (g.H.Hall.seat c.with_item.new.hall) c.pop.new.self.items c.in-Some.outer c.in-Ok.item c.args.stop calls
+    call
+    c.with_item.result left (c.with_item.ensures.answer left.last left.one left.held)
+
+pub returns-clause-work : goal.returns-clause-work
+returns-clause-work g c =
+    let left = left-by (g.H.Hall.seat c.args.hall.now) (g.H.Hall.seat c.close.new.hall)
+    c.args.around.now.items
+    c.pop.new.self.items c.args.innermost c.in-Some.outer c.in-Ok.item c.args.stop c.requires.0 c.requires.1
+    c.requires.2 c.in-Some.ensures.items (c.in-Ok.ensures.answer c.requires.1
+    (leave-closes (g.H.Hall.seat c.args.hall.now) c.args.around.now.items c.args.innermost c.args.stop
+    c.requires.0
+    c.requires.1 c.requires.2)) in
+    paid-leave (g.H.Hall.seat c.args.hall.now) (g.H.Hall.seat c.close.new.hall)
+    (g.H.Hall.seat c.with_item.new.hall) (g.H.Hall.work c.args.hall.now) (g.H.Hall.work c.close.new.hall)
+    (g.H.Hall.work c.with_item.new.hall) c.args.around.now.items c.pop.new.self.items c.args.innermost
+    c.in-Some.outer c.in-Ok.item c.args.stop c.requires.0 c.requires.1 c.with_item.result left
+    (c.with_item.ensures.answer left.last left.one left.held) c.in-Some.ensures.items c.in-Ok.ensures.work
+    c.with_item.ensures.work
+
+pub returns-clause-nexts : goal.returns-clause-nexts
+returns-clause-nexts g c =
+    (nexts_then (g.H.Hall.rooms c.args.hall.now) (g.H.Hall.rooms c.close.new.hall)
+    (g.H.Hall.rooms c.with_item.new.hall) c.close.ensures.nexts c.with_item.ensures.nexts)

@@ -1,0 +1,70 @@
+-- What a builder does to the stakes of a seat.
+use Rattle.std.specs.Prelude.{◌≡◌, ◌≤◌, ◌<◌, ℕ, ◌+◌, ◌-◌, List, [], ◌∷◌, map, length, All, Option, Result, Ok}
+use Rattle.std.specs.Prelude.{Err}
+use Rattle.trace_base.specs.Outside.{Told}
+use Rattle.trace_base.specs.declared.limits.TheConstants.{MAX_TIME}
+use Rattle.node_key.specs.Items.{FitBetween}
+use Rattle.node_key.specs.Seat.{ExchangesStakes, Seat}
+use Rattle.node_key.specs.Stakes.{HasStakes, Stake, stake}
+use Rattle.node_key.specs.Tree.{height}
+use Rattle.node_key.specs.declared.item.Item.{Item}
+use Rattle.node_key.specs.declared.limits.TheConstants.{HEIGHT_BOUND, MAX_HEIGHT, MAX_KIDS}
+use Rattle.hall_trait.specs.Answers.{RecordsNone, RecordsUsedUp}
+use Rattle.hall_trait.specs.declared.answers.HallFault.{HallFault}
+use Rattle.hall_trait.specs.declared.answers.HallFault.TheVariants as fault
+use Rattle.builders.specs.Built.{StoredItem, built, items_in, stakes_held}
+use Rattle.builders.specs.declared.built.BuiltItem.{BuiltItem}
+
+-- the items are these, and the seat has the stakes on them
+pub record Holds (seat : Seat) (items : List BuiltItem) (stored : List StoredItem) : Type 0 where
+  pub are : items ≡ map built stored
+  pub stakes : HasStakes seat.stakes (stakes_held stored)
+
+-- and they may be put into a node between two times
+pub record HoldsBetween (seat : Seat) (start end : ℕ) (items : List BuiltItem) (stored : List StoredItem)
+    : Type 0 where
+  pub are : items ≡ map built stored
+  pub stakes : HasStakes seat.stakes (stakes_held stored)
+  pub placed : FitBetween start end (items_in stored)
+  pub low : All (λ i. height i.tree < HEIGHT_BOUND) (items_in stored)
+
+-- and they may be put into groups and these into groups again, as often as it takes
+pub record MayBeBound (seat : Seat) (items : List BuiltItem) (stored : List StoredItem) : Type 0 where
+  pub are : items ≡ map built stored
+  pub stakes : HasStakes seat.stakes (stakes_held stored)
+  pub placed : FitBetween 0 MAX_TIME (items_in stored)
+  pub low : All (λ i. height i.tree ≤ MAX_HEIGHT - MAX_KIDS) (items_in stored)
+
+-- On Ok the item is built, for the stakes that were held. On a fault these are left.
+abbrev pub BuildsItem : Seat → Seat → List Stake → Item → List Stake → Result BuiltItem HallFault → Type 0
+BuildsItem old new held item left (Ok b) = (n : ℕ) × (b ≡ built (record { item = item; number = n }))
+    × ExchangesStakes old new held (stake n item.tree ∷ [])
+BuildsItem old new held item left (Err e) = ExchangesStakes old new held left
+
+-- On Ok the items are built, for the stakes that were held. On a fault these are left.
+abbrev pub BuildsItems : Seat → Seat → List Stake → List Item → List Stake → Result (List BuiltItem) HallFault
+    → Type 0
+BuildsItems old new held items left (Ok bs) = (stored : List StoredItem) × (bs ≡ map built stored)
+    × (items_in stored ≡ items) × ExchangesStakes old new held (stakes_held stored)
+BuildsItems old new held items left (Err e) = ExchangesStakes old new held left
+
+-- what is recorded of the numbers that are used up; it isn't told that too many traces are open
+abbrev pub BuildRecords : {X : Type 0} → Option (List ℕ) → Option (List ℕ) → Result X HallFault → Type 0
+BuildRecords old new (Ok x) = RecordsNone old new
+BuildRecords old new (Err (fault.Spent v)) = RecordsUsedUp old new v
+BuildRecords old new (Err fault.Memory) = RecordsNone old new
+BuildRecords old new (Err (fault.Full place)) = ⊥
+
+-- where the hall counts what this seat did, it grows by at most so much
+abbrev pub AddsWorkUpTo : Option ℕ → Option ℕ → ℕ → Type 0
+AddsWorkUpTo old new n = Told old new (λ was now. now ≤ was + n)
+
+-- Where the hall counts what this seat did, each node that was interned took the place of several items: of
+-- so many at first so many are left.
+abbrev pub WorkPaidBy : Option ℕ → Option ℕ → ℕ → ℕ → Type 0
+WorkPaidBy old new first left = Told old new (λ was now. now + left ≤ was + first)
+
+-- how many items an answer has
+abbrev pub items_left : Result (List BuiltItem) HallFault → ℕ
+items_left (Ok bs) = length bs
+items_left (Err e) = 0

@@ -1,0 +1,4 @@
+pub mod Built
+pub mod Builds
+pub mod Calls
+pub mod Spending

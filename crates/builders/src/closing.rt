@@ -1,0 +1,97 @@
+ghost use Rattle.std.specs.Prelude.{◌≡◌, ℕ, [], ◌∷◌, List, length, map, max};
+ghost use Rattle.builders.specs.Spending.{BuildSpends};
+ghost use Rattle.hall_trait.specs.Answers.{NextsRise};
+ghost use Rattle.builders.specs.Built.{StoredItem, stakes_held};
+ghost use Rattle.builders.specs.Builds.{AddsWorkUpTo, BuildRecords, BuildsItem};
+ghost use Rattle.builders.specs.Calls.{AddsItem, HoldsCall, HoldsWith, StoredCall, calls_stakes, open_call};
+ghost use Rattle.builders.specs.Calls.{passed};
+ghost use Rattle.call_tree.specs.Passing.{closed_item};
+ghost use Rattle.hall_trait.specs.Answers.{AddsNoWork, RecordsNone};
+ghost use Rattle.node_key.specs.Seat.{ExchangesStakes};
+ghost use Rattle.node_key.specs.Stakes.{HasStakes};
+
+use crate::built::{BuiltItem, OpenCall};
+use crate::grouping::bound_of;
+use crate::nodes::{node_of, release_all};
+use hall_trait::{Hall, HallFault};
+use std::sync::Wait;
+
+/// An open call that ends at `stop`, as one item, whose node is interned. On a fault the stakes on its items
+/// are given back.
+pub fn close<R: Wait, H: Hall>(
+    rt: &R,
+    hall: &mut H,
+    innermost: OpenCall,
+    stop: u64,
+) -> Result<BuiltItem, HallFault>
+    requires { (call : StoredCall) × HoldsCall (H.seat hall.old) innermost stop call }
+    ensures answer { (call : StoredCall) → HoldsCall (H.seat hall.old) innermost stop call
+        → BuildsItem (H.seat hall.old) (H.seat hall.new) (stakes_held call.stored)
+        (closed_item (passed call) stop) [] result }
+    ensures records { BuildRecords (H.used_up hall.old) (H.used_up hall.new) result }
+    ensures nexts { NextsRise (H.rooms hall.old) (H.rooms hall.new) }
+    ensures spent { BuildSpends (H.rooms hall.new) result }
+    ensures work { AddsWorkUpTo (H.work hall.old) (H.work hall.new) (max 1 (length innermost.items)) }
+{
+    let OpenCall { func, start, items } = innermost;
+    let bounded = match bound_of(rt, hall, items) {
+        Ok(bounded) => bounded,
+        Err(fault) => return Err(fault),
+    };
+    match node_of(rt, hall, func, start, stop, bounded.as_slice()) {
+        Ok(item) => Ok(item),
+        Err(fault) => {
+            release_all(rt, hall, bounded.as_slice());
+            Err(fault)
+        }
+    }
+}
+
+/// An open call with one item more in it. On a fault the stakes on all of them are given back.
+#[tactic(auto, using(crate::proofs::Spending::nexts_same))]
+pub fn with_item<R: Wait, H: Hall>(
+    rt: &R,
+    hall: &mut H,
+    innermost: OpenCall,
+    item: BuiltItem,
+) -> Result<OpenCall, HallFault>
+    requires { (call : StoredCall) × (one : StoredItem) × HoldsWith (H.seat hall.old) innermost item call one }
+    ensures answer { (call : StoredCall) (one : StoredItem)
+        → HoldsWith (H.seat hall.old) innermost item call one
+        → AddsItem (H.seat hall.old) (H.seat hall.new) call one result }
+    ensures records { BuildRecords (H.used_up hall.old) (H.used_up hall.new) result }
+    ensures nexts { NextsRise (H.rooms hall.old) (H.rooms hall.new) }
+    ensures spent { BuildSpends (H.rooms hall.new) result }
+    ensures work { AddsNoWork (H.work hall.old) (H.work hall.new) }
+{
+    let OpenCall {
+        func,
+        start,
+        mut items,
+    } = innermost;
+    match items.push(item) {
+        Ok(()) => Ok(OpenCall { func, start, items }),
+        Err(_) => {
+            release_all(rt, hall, items.as_slice());
+            hall.release(rt, item.number);
+            Err(HallFault::Memory)
+        }
+    }
+}
+
+/// Gives back the stakes on the items of these calls.
+#[tactic(auto, using(crate::proofs::Spending::nexts_same))]
+pub fn release_calls<R: Wait, H: Hall>(rt: &R, hall: &mut H, calls: &[OpenCall])
+    requires { (stored : List StoredCall) × (calls.now ≡ map open_call stored)
+        × HasStakes (H.seat hall.old).stakes (calls_stakes stored) }
+    ensures gone { (stored : List StoredCall) → calls.now ≡ map open_call stored
+        → HasStakes (H.seat hall.old).stakes (calls_stakes stored)
+        → ExchangesStakes (H.seat hall.old) (H.seat hall.new) (calls_stakes stored) [] }
+    ensures records { RecordsNone (H.used_up hall.old) (H.used_up hall.new) }
+    ensures nexts { NextsRise (H.rooms hall.old) (H.rooms hall.new) }
+    ensures work { AddsNoWork (H.work hall.old) (H.work hall.new) }
+{
+    for call in calls {
+        release_all(rt, hall, call.items.as_slice());
+    }
+}

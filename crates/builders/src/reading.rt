@@ -1,0 +1,111 @@
+ghost use Rattle.std.specs.Prelude.{◌≡◌, ◌+◌, ◌≤◌, ◌<◌, ◌==◌, ◌++◌, ◌∷◌, [], ℕ, if◌then◌else◌, take, Some};
+ghost use Rattle.std.specs.Prelude.{Contains, IfOk, IfSome, OnOk};
+ghost use Rattle.hall_trait.specs.Answers.{AddsNoWork, NextsRise, RecordsNone};
+ghost use Rattle.hall_trait.specs.Nodes.{ReadsNode};
+ghost use Rattle.hall_trait.specs.Pin.{first_id, pin_view};
+ghost use Rattle.node_key.specs.Events.{events};
+ghost use Rattle.node_key.specs.History.{FitsTrack, stream_of};
+ghost use Rattle.node_key.specs.Tree.{Tree};
+
+use hall_trait::{Hall, Pin, Published};
+use node_key::NodeKey;
+use std::alloc::Global;
+use std::sync::Wait;
+use trace_base::{Event, MAX_TIME, Memory, Seq, TrackStream};
+
+/// Adds an event of a call, and nothing for a group, whose function is 0.
+fn push_of_call(list: &mut Seq<Event>, func: u32, event: Event) -> Result<(), Memory>
+    ensures { OnOk result (list.new ≡ list.old ++ (if func == 0 then [] else event ∷ [])) }
+{
+    if func == 0 {
+        return Ok(());
+    }
+    list.push(event)
+}
+
+/// Adds the events of the tree of a node that begins at `at`, whose key was read.
+fn push_events<R: Wait, H: Hall>(
+    rt: &R,
+    hall: &mut H,
+    key: &NodeKey,
+    at: u64,
+    list: &mut Seq<Event>,
+) -> Result<(), Memory>
+    requires leads { (t : Tree) × ReadsNode (H.reaches hall.old) t key.now }
+    requires in_time { at + key.now.dur ≤ MAX_TIME }
+    ensures answer { (t : Tree) → ReadsNode (H.reaches hall.old) t key.now
+        → OnOk result (list.new ≡ list.old ++ events t at) }
+    ensures kept { (m : ℕ) (t : Tree) → H.reaches hall.old m t → H.reaches hall.new m t }
+    ensures same { H.seat hall.new ≡ H.seat hall.old }
+    ensures records { RecordsNone (H.used_up hall.old) (H.used_up hall.new) }
+    ensures nexts { NextsRise (H.rooms hall.old) (H.rooms hall.new) }
+    ensures work { AddsNoWork (H.work hall.old) (H.work hall.new) }
+{
+    let end = at + key.dur;
+    push_of_call(list, key.func, Event::Enter(key.func, at))?;
+    let mut from = at;
+    for i in 0..key.len {
+        let kid = key.kids[i as usize];
+        let start = from + kid.gap;
+        let below = hall.read(rt, kid.node);
+        push_events(rt, hall, &below, start, list)?;
+        from = start + kid.span;
+    }
+    push_of_call(list, key.func, Event::Leave(end))
+}
+
+/// Adds the events of the tree of the node `n`, which begins at `at`, in nanoseconds, and ends within the
+/// greatest time. The hall keeps what it has, but reaches the nodes below from then on.
+pub fn events_of_number<R: Wait, H: Hall>(
+    rt: &R,
+    hall: &mut H,
+    n: u64,
+    at: u64,
+    list: &mut Seq<Event>,
+) -> Result<(), Memory>
+    requires { (t : Tree) × H.reaches hall.old n t × (at + t.dur ≤ MAX_TIME) }
+    ensures answer { (t : Tree) → H.reaches hall.old n t → OnOk result (list.new ≡ list.old ++ events t at) }
+    ensures kept { (m : ℕ) (t : Tree) → H.reaches hall.old m t → H.reaches hall.new m t }
+    ensures same { H.seat hall.new ≡ H.seat hall.old }
+    ensures records { RecordsNone (H.used_up hall.old) (H.used_up hall.new) }
+    ensures nexts { NextsRise (H.rooms hall.old) (H.rooms hall.new) }
+    ensures work { AddsNoWork (H.work hall.old) (H.work hall.new) }
+{
+    let key = hall.read(rt, n);
+    push_events(rt, hall, &key, at, list)
+}
+
+/// The stream of a track, counted from 0, of the pin's first trace; `None` exactly where it isn't published
+/// at the pin's place.
+pub fn published_stream<R: Wait, H: Hall>(
+    rt: &R,
+    alloc: Global,
+    hall: &mut H,
+    pin: &Pin,
+    track: u32,
+) -> Result<Option<TrackStream>, Memory>
+    requires has { Contains (H.seat hall.old).pins (pin_view pin.now) }
+    requires within { track < pin.now.first.tracks }
+    ensures stream { IfOk result (λ s. s ≡ stream_of (take pin.now.place (H.seat hall.old).seen)
+        (first_id pin.now.ids) track) }
+    ensures fits { IfOk result (λ r. IfSome r (λ s. FitsTrack (take pin.now.place (H.seat hall.old).seen)
+        (first_id pin.now.ids) track s)) }
+    ensures same { H.seat hall.new ≡ H.seat hall.old }
+    ensures records { RecordsNone (H.used_up hall.old) (H.used_up hall.new) }
+    ensures nexts { NextsRise (H.rooms hall.old) (H.rooms hall.new) }
+    ensures work { AddsNoWork (H.work hall.old) (H.work hall.new) }
+{
+    match hall.published(rt, pin, 0, track) {
+        Published::NotYet => Ok(None),
+        Published::Root { start, root } => {
+            let key = hall.read(rt, root);
+            let mut events = Seq::new(alloc);
+            push_events(rt, hall, &key, start, &mut events)?;
+            Ok(Some(TrackStream {
+                start,
+                end: start + key.dur,
+                events,
+            }))
+        }
+    }
+}

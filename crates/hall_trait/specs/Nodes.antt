@@ -1,0 +1,69 @@
+-- What the calls of a hall on nodes answer. Which numbers lead to which trees differs from hall to hall.
+use Rattle.std.specs.Prelude.{◌≡◌, ℕ, List, [], ◌∷◌, slice_get, Option, None, Some, Result, Ok, Err}
+use Rattle.std.specs.List.{AllZip}
+use Rattle.node_key.specs.Branches.{branches}
+use Rattle.node_key.specs.History.{Entry, PublishedTree, IsTrackTree, published_of}
+use Rattle.node_key.specs.Keys.{IsKeyOf}
+use Rattle.node_key.specs.Rooms.{room}
+use Rattle.node_key.specs.Seat.{Seat, ExchangesStakes}
+use Rattle.node_key.specs.Stakes.{Stake, stake}
+use Rattle.node_key.specs.Tree.{Tree}
+use Rattle.node_key.specs.declared.key.NodeKey.{NodeKey}
+use Rattle.node_key.specs.declared.tree.Branch.{Branch}
+use Rattle.shard_core.specs.Interning.{IsSpent}
+use Rattle.shard_core.specs.Room.{Room}
+use Rattle.shard_core.specs.declared.answers.Interned.{Interned}
+use Rattle.shard_core.specs.declared.answers.Interned.TheVariants.{Known, New}
+use Rattle.hall_trait.specs.Answers.{RecordsUsedUp, RecordsNone}
+use Rattle.hall_trait.specs.declared.answers.HallFault.{HallFault}
+use Rattle.hall_trait.specs.declared.answers.HallFault.TheVariants as fault
+use Rattle.hall_trait.specs.declared.answers.Published.{Published}
+use Rattle.hall_trait.specs.declared.answers.Published.TheVariants.{Root, NotYet}
+
+-- where the hall tells the rooms of its store, the number is used up for this key in the key's room
+abbrev pub IsSpentIn : Option (List Room) → NodeKey → ℕ → Type 0
+IsSpentIn None key v = Unit {0}
+IsSpentIn (Some rooms) key v = (r : Room) × (slice_get rooms (room key) ≡ Some r) × IsSpent r key v
+
+-- What intern answers: a stake on the node of this tree in place of those on its kids, or a fault that
+-- changes nothing. It isn't told that too many traces are open.
+abbrev pub StakesNode : Seat → Seat → Tree → List Stake → Result Interned HallFault → Type 0
+StakesNode old new t kids (Ok (Known n)) = ExchangesStakes old new kids (stake n t ∷ [])
+StakesNode old new t kids (Ok (New n)) = ExchangesStakes old new kids (stake n t ∷ [])
+StakesNode old new t kids (Err (fault.Spent v)) = new ≡ old
+StakesNode old new t kids (Err fault.Memory) = new ≡ old
+StakesNode old new t kids (Err (fault.Full place)) = ⊥
+
+-- what intern tells of the store's rooms: where a number is used up
+abbrev pub InternSpends : Option (List Room) → NodeKey → Result Interned HallFault → Type 0
+InternSpends rooms key (Ok interned) = Unit {0}
+InternSpends rooms key (Err (fault.Spent v)) = IsSpentIn rooms key v
+InternSpends rooms key (Err fault.Memory) = Unit {0}
+InternSpends rooms key (Err (fault.Full place)) = Unit {0}
+
+-- what intern records of the numbers that are used up
+abbrev pub InternRecords : Option (List ℕ) → Option (List ℕ) → Result Interned HallFault → Type 0
+InternRecords old new (Ok interned) = RecordsNone old new
+InternRecords old new (Err (fault.Spent v)) = RecordsUsedUp old new v
+InternRecords old new (Err fault.Memory) = RecordsNone old new
+InternRecords old new (Err (fault.Full place)) = RecordsNone old new
+
+-- a node that is interned counts as one
+abbrev pub work_of_intern : Result Interned HallFault → ℕ
+work_of_intern (Ok interned) = 1
+work_of_intern (Err e) = 0
+
+-- What read answers of a node, where it is told which numbers lead to which trees: its key, over numbers that
+-- lead to the kids of its tree, one for each.
+abbrev pub ReadsNode : (ℕ → Tree → Type 0) → Tree → NodeKey → Type 0
+ReadsNode leads t key = (ns : List ℕ) × IsKeyOf t ns key
+    × AllZip (λ n (b : Branch). leads n b.tree) ns (branches t.kids)
+
+-- What published answers of a track as of these entries, where it is told which numbers lead to which trees:
+-- when it starts and a number that leads to its tree, which is that of a stream that fits it, or that it
+-- isn't published there.
+abbrev pub TellsTrack : List Entry → ℕ → ℕ → (ℕ → Tree → Type 0) → Published → Type 0
+TellsTrack entries id track leads NotYet = published_of entries id track ≡ None
+TellsTrack entries id track leads (Root start root) = (p : PublishedTree)
+    × (published_of entries id track ≡ Some p) × IsTrackTree entries id track p × (start ≡ p.start)
+    × leads root p.tree

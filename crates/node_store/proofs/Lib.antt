@@ -1,0 +1,16 @@
+pub mod Dropping
+pub mod Entering
+pub mod Exchanging
+pub mod GivenEntries
+pub mod HandingOver
+pub mod Interning
+pub mod Keeping
+pub mod KidLoops
+pub mod Reading
+pub mod StakesCounted
+pub mod Living
+pub mod Owning
+pub mod Staking
+pub mod Starting
+pub mod TakenBack
+pub mod TreesUnder

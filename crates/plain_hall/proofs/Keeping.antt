@@ -1,0 +1,67 @@
+-- A store keeps what it keeps for the same stakes in any order; and the rooms of a store in order.
+use Rattle.std.proofs.Common.{◌≡◌, ◌⊎◌, inl, inr, ◌+◌, cond, List, [], ◌∷◌, ◌++◌}
+use Rattle.std.proofs.Common.{map, Some, refl, sym, ap, ◌∙◌, arith, sum_by, Contains}
+use Rattle.std.specs.List.{AllZip}
+use Rattle.std.specs.Prelude.{◌≤◌}
+use Rattle.std.proofs.lemmas.List.Sums.{sum_by-append, sum_by-cons}
+use Rattle.node_key.specs.Stakes.{Exchanges, Stake, same_stake, times}
+use Rattle.shard_core.specs.Room.{Room}
+use Rattle.hall_trait.specs.Answers.{NextsRise}
+use Rattle.store_laws.specs.Counted.{IsStore, stakes_on}
+use Rattle.store_laws.specs.Store.{Store}
+use Rattle.store_laws.proofs.SumsOfStakes.{from_either, stakes_exchanged}
+use Rattle.node_store.specs.Given.{stakes_of}
+use Rattle.node_store.specs.Kept.{KeepsFor, NodesKept}
+
+pub times_both : (x : Stake) (xs ys : List Stake) → times x (xs ++ ys) ≡ times x xs + times x ys
+times_both x xs ys = sum_by-append (λ (y : Stake). cond (same_stake x y) 1 0) xs ys
+
+pub times_first : (x y : Stake) (ys : List Stake) → times x (y ∷ ys) ≡ times x (y ∷ []) + times x ys
+times_first x y ys = times_both x (y ∷ []) ys
+
+pub times_of : {X : Type 0} (x : Stake) (f : X → Stake) (xs : List X)
+    → times x (map f xs) ≡ sum_by (λ y. cond (same_stake x (f y)) 1 0) xs
+times_of x f [] = refl
+times_of x f (y ∷ ys) = sum_by-cons (λ (z : Stake). cond (same_stake x z) 1 0) (f y) (map f ys) ∙ ap
+    (λ n. cond (same_stake x (f y)) 1 0 + n) (times_of x f ys) ∙ sym
+    (sum_by-cons (λ z. cond (same_stake x (f z)) 1 0) y ys)
+
+-- stakes in another order
+store_same : (rooms : Store) (held left : List Stake) → Exchanges held left [] [] → IsStore rooms held
+    → IsStore rooms left
+store_same rooms held left swap store = record {
+  canonic = store.canonic;
+  counted = record {
+    stands = λ x there. store.counted.stands x (was_there x (from_either held left [] [] x swap there));
+    counts = λ n s at. let same : stakes_on n held ≡ stakes_on n left =
+        let e = stakes_exchanged n held left [] [] swap in omega (arith, e)
+        in store.counted.counts n s at ∙ ap (λ k. k + Rattle.store_laws.specs.Counted.kid_places rooms n) same;
+  };
+}
+  where
+    was_there : (x : Stake) → Contains held x ⊎ Contains {X = Stake} [] x → Contains held x
+    was_there x (inl there) = there
+    was_there x (inr there) = absurd (omega (arith, there.1))
+
+pub keeps_same : (s : NodesKept) (xs ys : List Stake) → ((x : Stake) → times x xs ≡ times x ys) → KeepsFor s xs
+    → KeepsFor s ys
+keeps_same s xs ys same = store_same s.rooms (stakes_of s.given ++ xs) (stakes_of s.given ++ ys) (λ x.
+    omega (arith, same x, times_both x (stakes_of s.given) xs, times_both x (stakes_of s.given) ys))
+
+-- ---- rooms
+
+pub never_falls : (a b c : List Room) → AllZip (λ (was now : Room). was.next ≤ now.next) a b
+    → AllZip (λ (was now : Room). was.next ≤ now.next) b c → AllZip (λ (was now : Room). was.next ≤ now.next) a c
+never_falls [] [] [] one two = tt
+never_falls [] [] (t ∷ c) one two = two
+never_falls [] (s ∷ b) c one two = absurd one
+never_falls (r ∷ a) [] c one two = absurd one
+never_falls (r ∷ a) (s ∷ b) [] one two = two
+never_falls (r ∷ a) (s ∷ b) (t ∷ c) one two = (omega (arith, one.0, two.0), never_falls a b c one.1 two.1)
+
+pub nexts_same : (rooms : List Room) → NextsRise (Some rooms) (Some rooms)
+nexts_same [] = tt
+nexts_same (r ∷ rooms) = (omega arith, nexts_same rooms)
+
+pub nexts_stay : (old new : List Room) → new ≡ old → NextsRise (Some old) (Some new)
+nexts_stay old new same = rw same (nexts_same old)

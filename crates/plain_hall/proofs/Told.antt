@@ -1,0 +1,259 @@
+-- The words of a history that don't look into what is published say the same with trees in place of roots.
+use Rattle.std.proofs.Common.{◌≡◌, ℕ, ◌+◌, ◌||◌, ◌&&◌, not, Bool, true, false, cond, eqb, suc, List, [], ◌∷◌}
+use Rattle.std.proofs.Common.{length, map, filter, Option, None, Some, refl, sym, ap, ap₂, ◌∙◌, arith}
+use Rattle.std.specs.Prelude.{is_some, slice_get, IsSome}
+use Rattle.std.specs.List.{list_any, filter_map, cons_option}
+use Rattle.std.specs.Option.{option_map, option_map_or}
+use Rattle.std.proofs.Math.Path.{fun_ext}
+use Rattle.std.proofs.lemmas.Option.{slice_get-map}
+use Rattle.trace_base.specs.declared.names.TraceInfo.{TraceInfo}
+use Rattle.node_key.specs.History.{EntryOf, Opened, Published, Sealed, Dropped, Closed, Asked}
+use Rattle.node_key.specs.History.{opened_id, info_opened, published_as, publishes, seals, ends, opened_ids}
+use Rattle.node_key.specs.History.{info_of, published_of, is_open, tracks_of, published_count}
+use Rattle.node_key.specs.Left.{published_if, open_published}
+use Rattle.node_key.specs.Stands.{KeyAt}
+use Rattle.node_store.specs.TreeUnder.{tree_under}
+use Rattle.plain_hall.specs.Orderly.{IsOrderly}
+use Rattle.plain_hall.specs.Rooted.{told_by, tree_of_root, with_trees, root_stake, root_stakes, NamesNode}
+use Rattle.plain_hall.specs.Rooted.{NameNodes}
+use Rattle.plain_hall.specs.declared.root.Root.{Root}
+
+-- ---- what an entry does
+
+opened_id-told : {X Y : Type 0} (f : X → Y) (e : EntryOf X) → opened_id (told_by f e) ≡ opened_id e
+opened_id-told f (Opened id info) = refl
+opened_id-told f (Published id track what) = refl
+opened_id-told f (Sealed id) = refl
+opened_id-told f (Dropped id) = refl
+opened_id-told f (Closed id) = refl
+opened_id-told f Asked = refl
+
+info_opened-told : {X Y : Type 0} (f : X → Y) (id : ℕ) (e : EntryOf X)
+    → info_opened id (told_by f e) ≡ info_opened id e
+info_opened-told f id (Opened other info) = refl
+info_opened-told f id (Published other track what) = refl
+info_opened-told f id (Sealed other) = refl
+info_opened-told f id (Dropped other) = refl
+info_opened-told f id (Closed other) = refl
+info_opened-told f id Asked = refl
+
+ends-told : {X Y : Type 0} (f : X → Y) (id : ℕ) (e : EntryOf X) → ends id (told_by f e) ≡ ends id e
+ends-told f id (Opened other info) = refl
+ends-told f id (Published other track what) = refl
+ends-told f id (Sealed other) = refl
+ends-told f id (Dropped other) = refl
+ends-told f id (Closed other) = refl
+ends-told f id Asked = refl
+
+seals-told : {X Y : Type 0} (f : X → Y) (id : ℕ) (e : EntryOf X) → seals id (told_by f e) ≡ seals id e
+seals-told f id (Opened other info) = refl
+seals-told f id (Published other track what) = refl
+seals-told f id (Sealed other) = refl
+seals-told f id (Dropped other) = refl
+seals-told f id (Closed other) = refl
+seals-told f id Asked = refl
+
+publishes-told : {X Y : Type 0} (f : X → Y) (id : ℕ) (e : EntryOf X)
+    → publishes id (told_by f e) ≡ publishes id e
+publishes-told f id (Opened other info) = refl
+publishes-told f id (Published other track what) = refl
+publishes-told f id (Sealed other) = refl
+publishes-told f id (Dropped other) = refl
+publishes-told f id (Closed other) = refl
+publishes-told f id Asked = refl
+
+told_if : {X Y : Type 0} (f : X → Y) (b : Bool) (x : X)
+    → cond b (Some (f x)) None ≡ option_map f (cond b (Some x) None)
+told_if f true x = refl
+told_if f false x = refl
+
+published_as-told : {X Y : Type 0} (f : X → Y) (id track : ℕ) (e : EntryOf X)
+    → published_as id track (told_by f e) ≡ option_map f (published_as id track e)
+published_as-told f id track (Published other which what) = told_if f (eqb other id && eqb which track) what
+published_as-told f id track (Opened other info) = refl
+published_as-told f id track (Sealed other) = refl
+published_as-told f id track (Dropped other) = refl
+published_as-told f id track (Closed other) = refl
+published_as-told f id track Asked = refl
+
+published_if-told : {X Y : Type 0} (f : X → Y) (test : ℕ → Bool) (e : EntryOf X)
+    → published_if test (told_by f e) ≡ option_map f (published_if test e)
+published_if-told f test (Published id track what) = told_if f (test id) what
+published_if-told f test (Opened id info) = refl
+published_if-told f test (Sealed id) = refl
+published_if-told f test (Dropped id) = refl
+published_if-told f test (Closed id) = refl
+published_if-told f test Asked = refl
+
+-- ---- what is so after some entries
+
+told_filter : {X Y Z : Type 0} (f : X → Y) (h : EntryOf Y → Option Z) (g : EntryOf X → Option Z)
+    (entries : List (EntryOf X)) → ((e : EntryOf X) → h (told_by f e) ≡ g e)
+    → filter_map h (map (told_by f) entries) ≡ filter_map g entries
+told_filter f h g [] same = refl
+told_filter f h g (e ∷ entries) same = ap₂ cons_option (same e) (told_filter f h g entries same)
+
+cons_told : {X Y : Type 0} (f : X → Y) (o : Option X) (xs : List X)
+    → cons_option (option_map f o) (map f xs) ≡ map f (cons_option o xs)
+cons_told f None xs = refl
+cons_told f (Some x) xs = refl
+
+told_values : {X Y : Type 0} (f : X → Y) (h : EntryOf Y → Option Y) (g : EntryOf X → Option X)
+    (entries : List (EntryOf X)) → ((e : EntryOf X) → h (told_by f e) ≡ option_map f (g e))
+    → filter_map h (map (told_by f) entries) ≡ map f (filter_map g entries)
+told_values f h g [] same = refl
+told_values f h g (e ∷ entries) same = ap₂ cons_option (same e) (told_values f h g entries same) ∙ cons_told f
+    (g e) (filter_map g entries)
+
+told_any : {X Y : Type 0} (f : X → Y) (p : EntryOf Y → Bool) (q : EntryOf X → Bool) (entries : List (EntryOf X))
+    → ((e : EntryOf X) → p (told_by f e) ≡ q e) → list_any p (map (told_by f) entries) ≡ list_any q entries
+told_any f p q [] same = refl
+told_any f p q (e ∷ entries) same = ap₂ ◌||◌ (same e) (told_any f p q entries same)
+
+length-if : {X : Type 0} (b : Bool) (x : X) (xs : List X) → length (cond b (x ∷ xs) xs) ≡ cond b 1 0 + length xs
+length-if true x xs = omega arith
+length-if false x xs = omega arith
+
+told_count : {X Y : Type 0} (f : X → Y) (p : EntryOf Y → Bool) (q : EntryOf X → Bool)
+    (entries : List (EntryOf X)) → ((e : EntryOf X) → p (told_by f e) ≡ q e)
+    → length (filter p (map (told_by f) entries)) ≡ length (filter q entries)
+told_count f p q [] same = refl
+told_count f p q (e ∷ entries) same = length-if (p (told_by f e)) (told_by f e) (filter p (map (told_by f) entries))
+    ∙ ap₂ (λ b n. cond b 1 0 + n) (same e) (told_count f p q entries same) ∙ sym
+    (length-if (q e) e (filter q entries))
+
+pub opened_ids-told : {X Y : Type 0} (f : X → Y) (entries : List (EntryOf X))
+    → opened_ids (map (told_by f) entries) ≡ opened_ids entries
+unfolding opened_ids
+opened_ids-told f entries = told_filter f opened_id opened_id entries (opened_id-told f)
+
+pub info_of-told : {X Y : Type 0} (f : X → Y) (entries : List (EntryOf X)) (id : ℕ)
+    → info_of (map (told_by f) entries) id ≡ info_of entries id
+unfolding info_of
+info_of-told f entries id = ap (λ (xs : List TraceInfo). slice_get xs 0)
+    (told_filter f (info_opened id) (info_opened id) entries (info_opened-told f id))
+
+pub tracks_of-told : {X Y : Type 0} (f : X → Y) (entries : List (EntryOf X)) (id : ℕ)
+    → tracks_of (map (told_by f) entries) id ≡ tracks_of entries id
+tracks_of-told f entries id = ap (λ o. option_map_or (λ (info : TraceInfo). length info.names.tracks) o 0)
+    (info_of-told f entries id)
+
+pub published_of-told : {X Y : Type 0} (f : X → Y) (entries : List (EntryOf X)) (id track : ℕ)
+    → published_of (map (told_by f) entries) id track ≡ option_map f (published_of entries id track)
+unfolding published_of
+published_of-told {X} {Y} f entries id track = ap (λ (xs : List Y). slice_get xs 0)
+    (told_values f (published_as id track) (published_as id track) entries (published_as-told f id track))
+    ∙ slice_get-map f (filter_map (published_as id track) entries) 0
+
+ended-told : {X Y : Type 0} (f : X → Y) (entries : List (EntryOf X)) (id : ℕ)
+    → list_any (ends id) (map (told_by f) entries) ≡ list_any (ends id) entries
+ended-told f entries id = told_any f (ends id) (ends id) entries (ends-told f id)
+
+sealed-told : {X Y : Type 0} (f : X → Y) (entries : List (EntryOf X)) (id : ℕ)
+    → list_any (seals id) (map (told_by f) entries) ≡ list_any (seals id) entries
+sealed-told f entries id = told_any f (seals id) (seals id) entries (seals-told f id)
+
+pub is_open-told : {X Y : Type 0} (f : X → Y) (entries : List (EntryOf X)) (id : ℕ)
+    → is_open (map (told_by f) entries) id ≡ is_open entries id
+unfolding is_open
+is_open-told f entries id = ap₂ (λ ids b. list_any (λ other. eqb other id) ids && not b)
+    (opened_ids-told f entries) (ended-told f entries id)
+
+pub published_count-told : {X Y : Type 0} (f : X → Y) (entries : List (EntryOf X)) (id : ℕ)
+    → published_count (map (told_by f) entries) id ≡ published_count entries id
+unfolding published_count
+published_count-told f entries id = told_count f (publishes id) (publishes id) entries (publishes-told f id)
+
+pub open_published-told : {X Y : Type 0} (f : X → Y) (entries : List (EntryOf X))
+    → open_published (map (told_by f) entries) ≡ map f (open_published entries)
+unfolding open_published
+open_published-told f entries = ap (λ test. filter_map (published_if test) (map (told_by f) entries))
+    (fun_ext (is_open-told f entries)) ∙ told_values f (published_if (is_open entries))
+    (published_if (is_open entries)) entries (published_if-told f (is_open entries))
+
+is_some-told : {X Y : Type 0} (f : X → Y) (o : Option X) → is_some (option_map f o) ≡ is_some o
+is_some-told f None = refl
+is_some-told f (Some x) = refl
+
+-- a history is orderly if it is with trees
+pub orderly_untold : {X Y : Type 0} (f : X → Y) (entries : List (EntryOf X)) → IsOrderly (map (told_by f) entries)
+    → IsOrderly entries
+orderly_untold f entries was =
+    let ids = opened_ids-told f entries in
+    let count = ap length ids in
+    record {
+      ids = sym ids ∙ was.ids ∙ ap (λ n. Rattle.std.specs.List.range_with_len 1 n) count;
+      unborn = λ id above.
+          let none = was.unborn id (omega (arith, above, count)) in
+          record {
+            info = ap is_some (sym (info_of-told f entries id)) ∙ none.info;
+            ended = sym (ended-told f entries id) ∙ none.ended;
+            sealed = sym (sealed-told f entries id) ∙ none.sealed;
+          };
+      counted = λ id. omega
+          (arith, was.counted id, tracks_of-told f entries id, published_count-told f entries id);
+      in_order = λ id track. sym (ap is_some (published_of-told f entries id track) ∙ is_some-told f
+          (published_of entries id track)) ∙ was.in_order id track ∙ ap
+          (λ n. Rattle.std.specs.Prelude.nat_lt track n)
+          (published_count-told f entries id);
+    }
+
+-- ---- with other keys
+
+map_same_at : {X Y : Type 0} (f g : X → Y) (xs : List X)
+    → ((k : ℕ) (x : X) → slice_get xs k ≡ Some x → f x ≡ g x) → map f xs ≡ map g xs
+map_same_at f g [] same = refl
+map_same_at f g (x ∷ xs) same = ap₂ ◌∷◌ (same 0 x refl) (map_same_at f g xs (λ k y at. same (suc k) y at))
+
+-- the keys stand for the same trees, as far as these go
+abbrev pub SameTrees : KeyAt → KeyAt → Type 0
+SameTrees before after = (n : ℕ) → IsSome (before n) → tree_under after n ≡ tree_under before n
+
+same_root : (before after : KeyAt) (r : Root) → SameTrees before after → IsSome (before r.node)
+    → tree_of_root after r ≡ tree_of_root before r
+same_root before after r same there = λ i. record { start = r.start; tree = same r.node there i }
+
+same_entry : (before after : KeyAt) (e : EntryOf Root) → SameTrees before after → NamesNode before e
+    → told_by (tree_of_root after) e ≡ told_by (tree_of_root before) e
+same_entry before after (Published id track r) same there = ap (Published id track)
+    (same_root before after r same there)
+same_entry before after (Opened id info) same there = refl
+same_entry before after (Sealed id) same there = refl
+same_entry before after (Dropped id) same there = refl
+same_entry before after (Closed id) same there = refl
+same_entry before after Asked same there = refl
+
+-- so the history is the same with trees
+pub with_trees-same : (before after : KeyAt) (entries : List (EntryOf Root)) → SameTrees before after
+    → NameNodes before entries → with_trees after entries ≡ with_trees before entries
+with_trees-same before after entries same there = map_same_at _ _ entries
+    (λ k e at. same_entry before after e same (there k e at))
+
+same_stakes : (before after : KeyAt) (test : ℕ → Bool) (entries : List (EntryOf Root)) → SameTrees before after
+    → NameNodes before entries → map (root_stake after) (filter_map (published_if test) entries)
+    ≡ map (root_stake before) (filter_map (published_if test) entries)
+same_stakes before after test [] same there = refl
+same_stakes before after test (Published id track r ∷ entries) same there =
+    let rest = same_stakes before after test entries same (λ k e at. there (suc k) e at) in
+    let here : root_stake after r ≡ root_stake before r =
+    λ i. record { number = r.node; tree = same r.node (there 0 (Published id track r) refl) i } in
+    elim (test id) as (λ b. map (root_stake after) (cons_option (cond b (Some r) None)
+    (filter_map (published_if test) entries)) ≡ map (root_stake before)
+    (cons_option (cond b (Some r) None) (filter_map (published_if test) entries)))
+    [ true ↦ ap₂ ◌∷◌ here rest | false ↦ rest ]
+same_stakes before after test (Opened id info ∷ entries) same there = same_stakes before after test entries same
+    (λ k e at. there (suc k) e at)
+same_stakes before after test (Sealed id ∷ entries) same there = same_stakes before after test entries same
+    (λ k e at. there (suc k) e at)
+same_stakes before after test (Dropped id ∷ entries) same there = same_stakes before after test entries same
+    (λ k e at. there (suc k) e at)
+same_stakes before after test (Closed id ∷ entries) same there = same_stakes before after test entries same
+    (λ k e at. there (suc k) e at)
+same_stakes before after test (Asked ∷ entries) same there = same_stakes before after test entries same
+    (λ k e at. there (suc k) e at)
+
+-- and so are the stakes on roots
+pub root_stakes-same : (before after : KeyAt) (entries : List (EntryOf Root)) → SameTrees before after
+    → NameNodes before entries → root_stakes after entries ≡ root_stakes before entries
+unfolding open_published
+root_stakes-same before after entries same there = same_stakes before after (is_open entries) entries same there

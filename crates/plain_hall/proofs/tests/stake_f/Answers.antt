@@ -1,0 +1,14 @@
+use Rattle.std.proofs.Common.{[], ◌∷◌}
+use Rattle.node_key.specs.Examples.{half, tenth, track_of_half}
+use Rattle.node_key.specs.Stakes.{stake}
+use Rattle.plain_hall.specs.PlainHall.{seat_of}
+use Rattle.plain_hall.proofs.SampleStakes.{has_none, known_node, new_node}
+use Rattle.plain_hall.proofs.tests.stake_f.Goals as goal
+
+pub returns-in-Known : goal.returns-in-Known
+returns-in-Known g c = known_node _ _ tenth _ c.in-Ok.interned c.in-Known.n c.in-Known.is
+    (c.in-Ok.ensures.answer tenth [] c.key_of_f.ensures (has_none (seat_of c.args.hall.now).stakes))
+
+pub returns-in-New : goal.returns-in-New
+returns-in-New g c = new_node _ _ tenth _ c.in-Ok.interned c.in-New.n c.in-New.is
+    (c.in-Ok.ensures.answer tenth [] c.key_of_f.ensures (has_none (seat_of c.args.hall.now).stakes))

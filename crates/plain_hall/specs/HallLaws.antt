@@ -1,0 +1,42 @@
+-- What holds of a plain hall whatever it did. The trait's laws name these proofs, and a law imports of its
+-- own crate only what stands in specs/.
+use Rattle.std.specs.Prelude.{◌≡◌, ℕ, List, Option, None, Some, refl}
+use Rattle.std.specs.List.{Contains}
+use Rattle.std.specs.Option.{option_map}
+use Rattle.std.proofs.Common.{arith, ◌∙◌}
+use Rattle.std.proofs.lemmas.List.Elements.{Contains-append_left}
+use Rattle.std.proofs.lemmas.Option.{none-some}
+use Rattle.hall_trait.specs.Answers.{HasRoom}
+use Rattle.node_key.specs.History.{EntryOf}
+use Rattle.node_key.specs.Stakes.{Stake}
+use Rattle.node_key.specs.Stands.{Stands}
+use Rattle.node_key.specs.declared.key.NodeKey.{NodeKey}
+use Rattle.shard_core.specs.Room.{Stored}
+use Rattle.store_laws.specs.Store.{key_in, node_in}
+use Rattle.node_store.proofs.TreesUnder.{stands_still}
+use Rattle.node_store.specs.Given.{ever, stakes_of}
+use Rattle.node_store.specs.Kept.{NodesKept}
+use Rattle.plain_hall.specs.Rooted.{with_trees}
+use Rattle.plain_hall.specs.Whole.{IsSoundHall}
+use Rattle.plain_hall.specs.declared.root.Root.{Root}
+
+-- the places of what is kept fit
+pub room_left : {nodes : NodesKept} {entries : List (EntryOf Root)} {owed live : ℕ}
+    → IsSoundHall nodes entries owed live → HasRoom (with_trees (ever nodes.given) entries) 0
+room_left whole = omega (arith, whole.kept.promises, whole.kept.fits)
+
+-- a node in the store has the key that its number was given to
+key_given : (nodes : NodesKept) (entries : List (EntryOf Root)) (owed live n : ℕ) (key : NodeKey)
+    → IsSoundHall nodes entries owed live → (o : Option Stored) → node_in nodes.rooms n ≡ o
+    → option_map (λ (s : Stored). s.key) o ≡ Some key → ever nodes.given n ≡ Some key
+key_given nodes entries owed live n key whole None here at = absurd (none-some key at)
+key_given nodes entries owed live n key whole (Some s) here at = whole.store.keys n s here ∙ at
+
+-- what the owner's stakes are on stands for their trees
+pub stakes_stand : {nodes : NodesKept} {entries : List (EntryOf Root)} {owed live : ℕ}
+    → IsSoundHall nodes entries owed live → (x : Stake) → Contains (stakes_of nodes.given) x
+    → Stands (ever nodes.given) x.number x.tree
+stakes_stand {nodes} {entries} {owed} {live} whole x there =
+    stands_still (key_in nodes.rooms) (ever nodes.given)
+    (λ n key at. key_given nodes entries owed live n key whole (node_in nodes.rooms n) refl at)
+    x.number x.tree (whole.roots.counted.stands x (Contains-append_left (stakes_of nodes.given) _ x there))

@@ -1,0 +1,3 @@
+pub mod Store
+pub mod Counted
+pub mod Reached

@@ -1,0 +1,41 @@
+use Rattle.std.proofs.Common.{◌≡◌, Option, List, ℕ, true, None, Some, subst}
+use Rattle.node_key.specs.Seat.{Seat}
+use Rattle.node_key.specs.declared.left.Left.{Left}
+use Rattle.plain_hall.specs.PlainHall.{seat_of}
+use Rattle.shard_core.specs.Room.{Room}
+use Rattle.trace_session.specs.Run.{TellsLeft, new_seat}
+use Rattle.trace_session.specs.Session.{IsSession}
+use Rattle.trace_session.proofs.program.run.Goals as goal
+
+pub returns-clause-batch : goal.returns-clause-batch
+returns-clause-batch g c = λ is begun.
+    let end = c.session-end.result in
+    let ended = c.session-end.new.hall in
+    let middle = g.O.Sink.held c.session-end.new.output in
+    let of_seat = subst (λ (seat : Seat). IsSession true
+    (record {
+      backend = record { seat = seat; used_up = None; rooms = Some c.in-Ok.hall.nodes.rooms };
+      left = g.I.Source.left c.args.input.now;
+      held = g.O.Sink.held c.args.output.now;
+    })
+    (record {
+      backend = record { seat = seat_of ended; used_up = None; rooms = Some ended.nodes.rooms };
+      left = g.I.Source.left c.session-end.new.input;
+      held = middle;
+    }) end)
+    c.in-Ok.ensures.seat c.session-end.ensures.session in
+    let session = subst (λ (rooms : List Room). IsSession true
+    (record {
+      backend = record { seat = new_seat; used_up = None; rooms = Some rooms };
+      left = g.I.Source.left c.args.input.now;
+      held = g.O.Sink.held c.args.output.now;
+    })
+    (record {
+      backend = record { seat = seat_of ended; used_up = None; rooms = Some ended.nodes.rooms };
+      left = g.I.Source.left c.session-end.new.input;
+      held = middle;
+    }) end)
+    c.in-Ok.ensures.rooms of_seat in
+    let told = subst (λ (left : Left). TellsLeft end left middle (g.O.Sink.held c.tell_left.new.output)
+    c.tell_left.result) c.left.ensures c.tell_left.ensures.told in
+    (end, seat_of ended, ended.nodes.rooms, middle, session, told)
