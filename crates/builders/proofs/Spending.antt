@@ -53,7 +53,7 @@ full_later (x ∷ xs) (y ∷ ys) p (suc i, r, at, full) =
     let f = full_later xs ys p.1 (i, r, at, full) in (suc f.0, f.1, f.2, f.3)
 
 pub store_later : (a b : Option (List Room)) (p : ℕ) → NextsRise a b → IsStoreSpent a p → IsStoreSpent b p
-store_later None None p rise spent = tt
+store_later None None p rise spent = spent
 store_later None (Some now) p rise spent = absurd rise
 store_later (Some was) None p rise spent = absurd rise
 store_later (Some was) (Some now) p rise (inl (is, full)) = inl (is, full_later was now rise full)
@@ -74,7 +74,7 @@ spent_in rooms key v r at (inr (n, has, is)) = inr is
 refused : (rooms : Option (List Room)) (key : NodeKey) (e : HallFault) → InternSpends rooms key (Err e)
     → BuildSpends {X = ℕ} rooms (Err e)
 refused rooms key fault.Memory spends = tt
-refused None key (fault.Spent v) spends = tt
+refused None key (fault.Spent v) spends = spends
 refused (Some rooms) key (fault.Spent v) spends = spent_in rooms key v spends.0 spends.1 spends.2
 refused rooms key (fault.Full place) spends = tt
 

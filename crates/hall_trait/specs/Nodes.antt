@@ -1,5 +1,5 @@
 -- What the calls of a hall on nodes answer. Which numbers lead to which trees differs from hall to hall.
-use Rattle.std.specs.Prelude.{◌≡◌, ℕ, List, [], ◌∷◌, slice_get, Option, None, Some, Result, Ok, Err}
+use Rattle.std.specs.Prelude.{◌≡◌, ◌⊎◌, ℕ, List, [], ◌∷◌, slice_get, Option, None, Some, Result, Ok, Err}
 use Rattle.std.specs.List.{AllZip}
 use Rattle.node_key.specs.Branches.{branches}
 use Rattle.node_key.specs.History.{Entry, PublishedTree, IsTrackTree, published_of}
@@ -9,9 +9,11 @@ use Rattle.node_key.specs.Seat.{Seat, ExchangesStakes}
 use Rattle.node_key.specs.Stakes.{Stake, stake}
 use Rattle.node_key.specs.Tree.{Tree}
 use Rattle.node_key.specs.declared.key.NodeKey.{NodeKey}
+use Rattle.node_key.specs.declared.limits.TheConstants.{MAX_NUMBERS}
 use Rattle.node_key.specs.declared.tree.Branch.{Branch}
 use Rattle.shard_core.specs.Interning.{IsSpent}
 use Rattle.shard_core.specs.Room.{Room}
+use Rattle.shard_core.specs.declared.limits.TheConstants.{MAX_COUNT}
 use Rattle.shard_core.specs.declared.answers.Interned.{Interned}
 use Rattle.shard_core.specs.declared.answers.Interned.TheVariants.{Known, New}
 use Rattle.hall_trait.specs.Answers.{RecordsUsedUp, RecordsNone}
@@ -20,9 +22,10 @@ use Rattle.hall_trait.specs.declared.answers.HallFault.TheVariants as fault
 use Rattle.hall_trait.specs.declared.answers.Published.{Published}
 use Rattle.hall_trait.specs.declared.answers.Published.TheVariants.{Root, NotYet}
 
--- where the hall tells the rooms of its store, the number is used up for this key in the key's room
+-- The number is used up for this key: it is how many numbers a room gives, or the greatest count. Where the
+-- hall tells the rooms of its store, it is so in the key's room.
 abbrev pub IsSpentIn : Option (List Room) → NodeKey → ℕ → Type 0
-IsSpentIn None key v = Unit {0}
+IsSpentIn None key v = (v ≡ MAX_NUMBERS) ⊎ (v ≡ MAX_COUNT)
 IsSpentIn (Some rooms) key v = (r : Room) × (slice_get rooms (room key) ≡ Some r) × IsSpent r key v
 
 -- What intern answers: a stake on the node of this tree in place of those on its kids, or a fault that
