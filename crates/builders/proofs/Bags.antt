@@ -2,7 +2,8 @@
 use Rattle.std.proofs.Common.{◌≡◌, ◌+◌, List, ◌++◌, refl, sym, subst, ◌∙◌, arith, cond}
 use Rattle.std.proofs.lemmas.List.Sums.{sum_by-append}
 use Rattle.node_key.specs.Seat.{ExchangesStakes, Seat}
-use Rattle.node_key.specs.Stakes.{HasStakes, same_stake, Stake, times}
+use Rattle.node_key.specs.Stakes.{HasStakes, same_stake, times}
+use Rattle.node_key.specs.declared.stake.Stake.{Stake}
 
 -- stakes of two lists
 pub times-append : (x : Stake) (xs ys : List Stake) → times x (xs ++ ys) ≡ times x xs + times x ys

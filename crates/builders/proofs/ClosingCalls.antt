@@ -6,7 +6,8 @@ use Rattle.std.proofs.lemmas.List.{map-append}
 use Rattle.node_key.specs.Bound.{bound}
 use Rattle.node_key.specs.Items.{FitBetween, node}
 use Rattle.node_key.specs.Seat.{ExchangesStakes, Seat}
-use Rattle.node_key.specs.Stakes.{HasStakes, Stake, stake}
+use Rattle.node_key.specs.Stakes.{HasStakes, stake}
+use Rattle.node_key.specs.declared.stake.Stake.{Stake}
 use Rattle.node_key.specs.Tree.{height}
 use Rattle.node_key.specs.declared.item.Item.{Item}
 use Rattle.node_key.specs.declared.limits.TheConstants.{HEIGHT_BOUND, MAX_HEIGHT, MAX_KIDS}

@@ -8,7 +8,8 @@ use Rattle.std.proofs.lemmas.List.{drop-drop, drop-map, drop-set-lt, drop_all, l
 use Rattle.std.proofs.lemmas.List.{length-take, map-append, take-map, take_more_set, nil_from_length}
 use Rattle.node_key.specs.Bound.{group, grouped}
 use Rattle.node_key.specs.Seat.{ExchangesStakes, Seat}
-use Rattle.node_key.specs.Stakes.{HasStakes, Stake, stake}
+use Rattle.node_key.specs.Stakes.{HasStakes, stake}
+use Rattle.node_key.specs.declared.stake.Stake.{Stake}
 use Rattle.node_key.specs.declared.item.Item.{Item}
 use Rattle.trace_base.specs.Outside.{Told}
 use Rattle.trace_base.specs.declared.limits.TheConstants.{MAX_TIME}

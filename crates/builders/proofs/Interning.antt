@@ -4,7 +4,8 @@ use Rattle.std.proofs.Common.{Option, Ok, Err, refl, sym, ap, subst, arith, get_
 use Rattle.std.proofs.lemmas.List.Elements.{All-cons, All-head, All-nil, All-tail}
 use Rattle.node_key.specs.Items.{node}
 use Rattle.node_key.specs.Seat.{ExchangesStakes, Seat}
-use Rattle.node_key.specs.Stakes.{HasStakes, IsOverStakes, Stake, stake}
+use Rattle.node_key.specs.Stakes.{HasStakes, IsOverStakes, stake}
+use Rattle.node_key.specs.declared.stake.Stake.{Stake}
 use Rattle.node_key.specs.Tree.{Tree, height}
 use Rattle.node_key.specs.declared.item.Item.{Item}
 use Rattle.node_key.specs.declared.key.NodeKey.{NodeKey}

@@ -1,7 +1,7 @@
 -- Items whose trees are built in a hall, and what they stand for.
 use Rattle.std.specs.Prelude.{ℕ, ◌+◌, ◌≤◌, List, [], ◌∷◌, map}
 use Rattle.node_key.specs.Tree.{height}
-use Rattle.node_key.specs.Stakes.{Stake}
+use Rattle.node_key.specs.declared.stake.Stake.{Stake}
 use Rattle.node_key.specs.declared.item.Item.{Item}
 use Rattle.builders.specs.declared.built.BuiltItem.{BuiltItem}
 

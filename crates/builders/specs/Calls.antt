@@ -5,7 +5,8 @@ use Rattle.std.specs.List.{flat_map}
 use Rattle.trace_base.specs.Outside.{Told}
 use Rattle.trace_base.specs.declared.stream.Event.{Event}
 use Rattle.node_key.specs.Seat.{ExchangesStakes, Seat}
-use Rattle.node_key.specs.Stakes.{HasStakes, Stake, stake}
+use Rattle.node_key.specs.Stakes.{HasStakes, stake}
+use Rattle.node_key.specs.declared.stake.Stake.{Stake}
 use Rattle.node_key.specs.Tree.{Tree}
 use Rattle.call_tree.specs.Passing.{CanClose, MayCome, PassesEvent}
 use Rattle.call_tree.specs.declared.pass.Open.{Open}

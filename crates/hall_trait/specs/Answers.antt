@@ -13,7 +13,8 @@ use Rattle.trace_base.specs.declared.stream.TrackStream.{TrackStream}
 use Rattle.node_key.specs.History.{Entry, EntryOf, Opened, Published, Sealed, Dropped, Closed, Asked}
 use Rattle.node_key.specs.History.{FitsTrack, next_id, info_of, is_open, open_ids, tracks_of}
 use Rattle.node_key.specs.History.{promised, published_tree}
-use Rattle.node_key.specs.Seat.{Seat, PassView, MakesEntry, Adds, Becomes}
+use Rattle.node_key.specs.Seat.{Seat, MakesEntry, Adds, Becomes}
+use Rattle.node_key.specs.declared.seat.PassView.{PassView}
 use Rattle.node_key.specs.Stakes.{Exchanges, HasStakes, stake}
 use Rattle.node_key.specs.Trees.{tree}
 use Rattle.shard_core.specs.Room.{Room}

@@ -27,12 +27,3 @@ pub enum AskAnswer {
     /// The places are used up: so many are taken or promised, which leaves no room for one more.
     Spent(u64),
 }
-
-/// What a hall tells of a track of a pinned trace, as of the place of the pin.
-#[derive(Clone, Copy, Debug, PartialEq, Eq)]
-pub enum Published {
-    /// It starts at `start`, in nanoseconds, and its tree is that of the node `root`.
-    Root { start: u64, root: u64 },
-    /// It isn't published there.
-    NotYet,
-}

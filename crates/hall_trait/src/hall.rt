@@ -7,7 +7,8 @@ ghost use Rattle.trace_base.specs.declared.asks.PassState.TheVariants.{Whole};
 ghost use Rattle.trace_base.specs.declared.stream.TrackStream.{TrackStream};
 ghost use Rattle.node_key.specs.History.{Sealed, Dropped, IsLegalHistory, info_of};
 ghost use Rattle.node_key.specs.Seat.{Seat, ExchangesStakes, MakesNoEntry, Removes};
-ghost use Rattle.node_key.specs.Stakes.{Stake, HasStakes, IsOverStakes, stake};
+ghost use Rattle.node_key.specs.Stakes.{HasStakes, IsOverStakes, stake};
+ghost use Rattle.node_key.specs.declared.stake.Stake.{Stake};
 ghost use Rattle.node_key.specs.Tree.{Tree};
 ghost use Rattle.shard_core.specs.Room.{Room};
 ghost use Rattle.hall_trait.specs.Answers.{Admits, AdmitRecords, AddsNoWork, AddsWork, Asks, AskRecords};
@@ -19,14 +20,14 @@ ghost use Rattle.hall_trait.specs.Pass.{pass_view, advanced, IsNext};
 ghost use Rattle.hall_trait.specs.Pin.{brief_at, id_at, pin_view};
 ghost use Rattle.hall_trait.specs.declared.answers.HallFault.TheVariants.{Memory};
 
-use crate::answers::{AskAnswer, HallFault, Published};
+use crate::answers::{AskAnswer, HallFault};
 use crate::pass::LoadPass;
 use crate::pin::Pin;
 use node_key::NodeKey;
 use shard_core::Interned;
 use std::alloc::Global;
 use std::sync::{Arc, Wait};
-use trace_base::{AskIds, TraceInfo};
+use trace_base::{AskIds, Published, TraceInfo};
 
 /// A seat of a hall, which keeps the open traces as nodes, equal subtrees once. All seats of a hall share one
 /// history. Between two calls of this seat others may act, so what it has seen begins what it sees next.

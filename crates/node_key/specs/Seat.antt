@@ -2,22 +2,11 @@
 -- one.
 use Rattle.std.specs.Prelude.{◌≡◌, ℕ, Bool, List, [], ◌∷◌, ◌++◌, length}
 use Rattle.std.specs.Bool.{OnTrue}
-use Rattle.trace_base.specs.declared.asks.AskIds.{AskIds}
-use Rattle.trace_base.specs.declared.asks.PassState.{PassState}
 use Rattle.node_key.specs.History.{Entry}
-use Rattle.node_key.specs.Stakes.{Exchanges, Stake}
-
--- the hold of a running query on its traces, as of a place
-pub record PinView : Type 0 where
-  pub ids : AskIds
-  pub place : ℕ
-
--- the right to publish the tracks from `from` up to, not including, `to` of a loading trace
-pub record PassView : Type 0 where
-  pub id : ℕ
-  pub from : ℕ
-  pub to : ℕ
-  pub state : PassState
+use Rattle.node_key.specs.Stakes.{Exchanges}
+use Rattle.node_key.specs.declared.stake.Stake.{Stake}
+use Rattle.node_key.specs.declared.seat.PassView.{PassView}
+use Rattle.node_key.specs.declared.seat.PinView.{PinView}
 
 -- A seat: its stakes, pins and load passes, the entries of the history that it has seen, which begin the
 -- history, and the places of its own entries, rising.

@@ -4,11 +4,7 @@ use Rattle.node_key.specs.Tree.{Kids, Tree, same_tree}
 use Rattle.node_key.specs.Branches.{branches}
 use Rattle.node_key.specs.Keys.{IsKeyOf}
 use Rattle.node_key.specs.declared.key.NodeKey.{NodeKey}
-
--- a reference to the node of this number, which stands for this tree
-pub record Stake : Type 0 where
-  pub number : ℕ
-  pub tree : Tree
+use Rattle.node_key.specs.declared.stake.Stake.{Stake}
 
 abbrev pub stake : ℕ → Tree → Stake
 stake n t = record { number = n; tree = t }

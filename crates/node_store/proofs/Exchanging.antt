@@ -3,7 +3,8 @@ use Rattle.std.proofs.Common.{◌≡◌, inl, inr, ℕ, ◌≤◌, ◌==◌, Boo
 use Rattle.std.proofs.Common.{◌∷◌, ◌++◌, Some, refl, sym, ap, ◌∙◌, arith}
 use Rattle.std.proofs.lemmas.Bool.{eq-eqb}
 use Rattle.std.proofs.lemmas.List.Sums.{sum_by-le-sum_by}
-use Rattle.node_key.specs.Stakes.{Exchanges, HasStakes, Stake, same_stake, times}
+use Rattle.node_key.specs.Stakes.{Exchanges, HasStakes, same_stake, times}
+use Rattle.node_key.specs.declared.stake.Stake.{Stake}
 use Rattle.shard_core.specs.Room.{Stored}
 use Rattle.store_laws.specs.Counted.{IsStore, stakes_on}
 use Rattle.store_laws.specs.Store.{Store, node_in}

@@ -1,6 +1,7 @@
 -- One of the owner's stakes is counted elsewhere.
 use Rattle.std.proofs.Common.{◌≡◌, ℕ, ◌-◌, ◌≤◌, List, [], ◌∷◌, sym, arith, subst}
-use Rattle.node_key.specs.Stakes.{Exchanges, HasStakes, Stake, stake}
+use Rattle.node_key.specs.Stakes.{Exchanges, HasStakes, stake}
+use Rattle.node_key.specs.declared.stake.Stake.{Stake}
 use Rattle.node_key.specs.Tree.{Tree}
 use Rattle.store_laws.specs.Store.{Store}
 use Rattle.node_store.specs.Answering.{HasStakeOn, TakesStake}

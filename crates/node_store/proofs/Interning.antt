@@ -2,7 +2,8 @@
 use Rattle.std.proofs.Common.{◌≡◌, ℕ, ◌+◌, ◌≤◌, List, [], ◌∷◌, ◌++◌, None, Some, Ok, Err, sym}
 use Rattle.std.proofs.Common.{ap, ◌∙◌, arith, subst, slice_get}
 use Rattle.node_key.specs.Rooms.{room}
-use Rattle.node_key.specs.Stakes.{Exchanges, HasStakes, IsOverStakes, Stake, stake, times}
+use Rattle.node_key.specs.Stakes.{Exchanges, HasStakes, IsOverStakes, stake, times}
+use Rattle.node_key.specs.declared.stake.Stake.{Stake}
 use Rattle.node_key.specs.Stands.{KeyAt, Stands}
 use Rattle.node_key.specs.Tree.{Tree}
 use Rattle.node_key.specs.declared.key.NodeKey.{NodeKey}

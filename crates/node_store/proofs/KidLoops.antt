@@ -1,7 +1,8 @@
 -- One of the owner's stakes on each kid of a key is given away, kid after kid.
 use Rattle.std.proofs.Common.{◌≡◌, ℕ, ◌+◌, ◌<◌, ◌≤◌, List, [], ◌∷◌, drop, get_or, length, refl, sym, ap, ◌∙◌}
 use Rattle.std.proofs.Common.{arith, subst}
-use Rattle.node_key.specs.Stakes.{Exchanges, HasStakes, Stake, stake, times}
+use Rattle.node_key.specs.Stakes.{Exchanges, HasStakes, stake, times}
+use Rattle.node_key.specs.declared.stake.Stake.{Stake}
 use Rattle.node_key.specs.Stands.{KeyAt}
 use Rattle.node_key.specs.Tree.{Tree}
 use Rattle.node_key.specs.declared.key.Kid.{Kid}

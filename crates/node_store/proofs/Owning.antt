@@ -1,6 +1,7 @@
 -- The owner's stakes as a list, in whatever order.
 use Rattle.std.proofs.Common.{◌≡◌, List, [], ◌∷◌, ◌++◌, arith, ap}
-use Rattle.node_key.specs.Stakes.{Exchanges, HasStakes, Stake, times}
+use Rattle.node_key.specs.Stakes.{Exchanges, HasStakes, times}
+use Rattle.node_key.specs.declared.stake.Stake.{Stake}
 use Rattle.node_store.specs.Answering.{Owns}
 use Rattle.node_store.specs.Given.{stakes_of}
 use Rattle.node_store.specs.Kept.{NodesKept}

@@ -5,7 +5,8 @@ use Rattle.std.proofs.Common.{sym, ap, ◌∙◌, arith}
 use Rattle.std.specs.List.{flat_map, range_with_len}
 use Rattle.std.proofs.lemmas.Bool.{cases_Bool, cases_eq, cases_lt}
 use Rattle.std.proofs.lemmas.List.Sums.{sum_by-append, sum_by-cons}
-use Rattle.node_key.specs.Stakes.{Stake, same_stake, times}
+use Rattle.node_key.specs.Stakes.{same_stake, times}
+use Rattle.node_key.specs.declared.stake.Stake.{Stake}
 use Rattle.node_key.specs.Tree.{Tree}
 use Rattle.store_laws.proofs.SumsOfStakes.{same_stake-true}
 use Rattle.node_store.specs.Given.{Given, ever, past_numbers, stake_at, staked_at, stakes_of}

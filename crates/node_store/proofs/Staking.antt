@@ -5,7 +5,8 @@ use Rattle.std.proofs.Common.{slice_get, option_map}
 use Rattle.std.specs.Option.{option_map_or}
 use Rattle.std.proofs.lemmas.Bool.{cases_Bool, cases_eq}
 use Rattle.std.proofs.lemmas.Option.{none-some, same_Some, slice_get_within}
-use Rattle.node_key.specs.Stakes.{Exchanges, HasStakes, IsOverStakes, Stake, same_stake, stake, times}
+use Rattle.node_key.specs.Stakes.{Exchanges, HasStakes, IsOverStakes, same_stake, stake, times}
+use Rattle.node_key.specs.declared.stake.Stake.{Stake}
 use Rattle.node_key.specs.Stands.{Stands}
 use Rattle.node_key.specs.Tree.{Tree}
 use Rattle.node_key.specs.declared.key.NodeKey.{NodeKey}

@@ -6,7 +6,8 @@ use Rattle.std.specs.Option.{option_map_or}
 use Rattle.std.proofs.lemmas.Option.{none-some, same_Some}
 use Rattle.node_key.specs.Branches.{kids_of}
 use Rattle.node_key.specs.Keys.{IsKeyOf, numbered}
-use Rattle.node_key.specs.Stakes.{AreOnKids, IsOverStakes, Stake}
+use Rattle.node_key.specs.Stakes.{AreOnKids, IsOverStakes}
+use Rattle.node_key.specs.declared.stake.Stake.{Stake}
 use Rattle.node_key.specs.Stands.{KeyAt, Stands}
 use Rattle.node_key.specs.Tree.{Kids, Tree, count, height, height_above, kid, no_kids}
 use Rattle.node_key.specs.declared.key.Kid.{Kid}

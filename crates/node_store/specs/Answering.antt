@@ -2,7 +2,8 @@
 use Rattle.std.specs.Prelude.{◌≡◌, ◌+◌, ◌∷◌, [], ℕ, List, Ok, Err, Result, None, Some, slice_get, slice_set}
 use Rattle.std.specs.Prelude.{⊤}
 use Rattle.node_key.specs.Rooms.{room}
-use Rattle.node_key.specs.Stakes.{Exchanges, HasStakes, IsOverStakes, Stake, stake}
+use Rattle.node_key.specs.Stakes.{Exchanges, HasStakes, IsOverStakes, stake}
+use Rattle.node_key.specs.declared.stake.Stake.{Stake}
 use Rattle.node_key.specs.Tree.{Tree}
 use Rattle.node_key.specs.declared.key.NodeKey.{NodeKey}
 use Rattle.shard_core.specs.Interning.{Interns, IsSpent}

@@ -5,7 +5,8 @@ use Rattle.std.specs.Prelude.{replicate, slice_get, Option, None, refl}
 use Rattle.std.specs.List.{flat_map, range_with_len}
 use Rattle.std.specs.Option.{option_and_then, option_map, option_map_or}
 use Rattle.std.specs.Coded.{Coded, code_by, coded×, coded_ℕ, coded_list}
-use Rattle.node_key.specs.Stakes.{Stake, stake}
+use Rattle.node_key.specs.Stakes.{stake}
+use Rattle.node_key.specs.declared.stake.Stake.{Stake}
 use Rattle.node_key.specs.Stands.{KeyAt}
 use Rattle.node_key.specs.declared.limits.TheConstants.{STORE_ROOMS}
 use Rattle.node_store.specs.TreeUnder.{tree_under}

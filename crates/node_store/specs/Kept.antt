@@ -2,7 +2,7 @@
 use Rattle.std.specs.Prelude.{◌≡◌, ◌+◌, ◌≤◌, ◌++◌, ℕ, List, length, slice_get, Some, refl}
 use Rattle.std.specs.List.{AllZip}
 use Rattle.std.specs.Coded.{Coded, code_by, coded×, coded_list}
-use Rattle.node_key.specs.Stakes.{Stake}
+use Rattle.node_key.specs.declared.stake.Stake.{Stake}
 use Rattle.node_key.specs.Stands.{Stands}
 use Rattle.node_key.specs.declared.key.NodeKey.{NodeKey}
 use Rattle.node_key.specs.declared.limits.TheConstants.{STORE_ROOMS}

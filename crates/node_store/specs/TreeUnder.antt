@@ -2,7 +2,8 @@
 use Rattle.std.specs.Prelude.{ℕ, zero, suc, List, map, Option, Some, None}
 use Rattle.std.specs.Option.{option_map_or}
 use Rattle.node_key.specs.Branches.{kids_of}
-use Rattle.node_key.specs.Stakes.{Stake, stake}
+use Rattle.node_key.specs.Stakes.{stake}
+use Rattle.node_key.specs.declared.stake.Stake.{Stake}
 use Rattle.node_key.specs.Stands.{KeyAt}
 use Rattle.node_key.specs.Tree.{Tree, no_kids}
 use Rattle.node_key.specs.declared.key.NodeKey.{NodeKey}

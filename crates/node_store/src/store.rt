@@ -1,6 +1,7 @@
 ghost use Rattle.std.specs.Prelude.{◌≡◌, ◌+◌, ◌<◌, ◌≤◌, ◌∷◌, [], ℕ, List, IfOk, IsSome, OnErr, OnOk, Some};
 ghost use Rattle.std.specs.Prelude.{length};
-ghost use Rattle.node_key.specs.Stakes.{Exchanges, HasStakes, Stake, stake};
+ghost use Rattle.node_key.specs.Stakes.{Exchanges, HasStakes, stake};
+ghost use Rattle.node_key.specs.declared.stake.Stake.{Stake};
 ghost use Rattle.node_key.specs.Tree.{Tree};
 ghost use Rattle.node_key.specs.declared.key.NodeKey.{NodeKey};
 ghost use Rattle.node_key.specs.declared.limits.TheConstants.{MAX_NUMBERS, STORE_ROOMS};

@@ -1,6 +1,7 @@
 ghost use Rattle.std.specs.Prelude.{◌≡◌, ◌∷◌, [], List, IfOk};
 ghost use Rattle.node_key.specs.Examples.{half, tenth, track_of_half};
-ghost use Rattle.node_key.specs.Stakes.{IsOverStakes, Stake, stake};
+ghost use Rattle.node_key.specs.Stakes.{IsOverStakes, stake};
+ghost use Rattle.node_key.specs.declared.stake.Stake.{Stake};
 ghost use Rattle.node_store.specs.Answering.{Owns, answered_number};
 ghost use Rattle.node_store.specs.Kept.{KeepsFor};
 

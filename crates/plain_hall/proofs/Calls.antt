@@ -18,10 +18,12 @@ use Rattle.plain_hall.specs.Orderly.{IsOrderly}
 use Rattle.hall_trait.specs.Pass.{state_at, left_in, state_after, pass_view, advanced, IsFresh, IsNext}
 use Rattle.hall_trait.specs.Pin.{first_id, second_id}
 use Rattle.plain_hall.specs.PlainSeat.{plain_seat}
-use Rattle.node_key.specs.Seat.{PinView, PassView, Becomes}
-use Rattle.node_key.specs.Stakes.{Stake}
+use Rattle.node_key.specs.Seat.{Becomes}
+use Rattle.node_key.specs.declared.seat.PinView.{PinView}
+use Rattle.node_key.specs.declared.seat.PassView.{PassView}
+use Rattle.node_key.specs.declared.stake.Stake.{Stake}
 use Rattle.hall_trait.specs.declared.pass.LoadPass.{LoadPass}
-use Rattle.hall_trait.proofs.More.{count_more, info_more, or_none}
+use Rattle.node_key.proofs.HistoryMore.{count_more, info_more, or_none}
 use Rattle.plain_hall.proofs.Passes.{Opens, asked_keeps, published_goes_on, opened_opens, has_loading}
 use Rattle.plain_hall.proofs.Steps.{makes}
 

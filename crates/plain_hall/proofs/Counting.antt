@@ -3,7 +3,7 @@ use Rattle.std.proofs.Common.{◌≡◌, ℕ, List, [], ◌∷◌, ◌++◌, len
 use Rattle.node_key.specs.History.{EntryOf, PublishedTree}
 use Rattle.node_key.specs.Keys.{distinct}
 use Rattle.node_key.specs.Left.{left_of, open_published}
-use Rattle.node_key.specs.Stakes.{Stake}
+use Rattle.node_key.specs.declared.stake.Stake.{Stake}
 use Rattle.node_key.specs.Stands.{KeyAt}
 use Rattle.node_key.specs.Tree.{Tree}
 use Rattle.node_key.specs.declared.left.Left.{Left}

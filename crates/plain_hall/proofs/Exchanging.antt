@@ -7,8 +7,10 @@ use Rattle.hall_trait.specs.Nodes.{ReadsNode, StakesNode}
 use Rattle.node_key.specs.Branches.{branches}
 use Rattle.node_key.specs.History.{Entry}
 use Rattle.node_key.specs.Keys.{IsKeyOf}
-use Rattle.node_key.specs.Seat.{ExchangesStakes, PinView, Seat}
-use Rattle.node_key.specs.Stakes.{Exchanges, Stake, stake}
+use Rattle.node_key.specs.Seat.{ExchangesStakes, Seat}
+use Rattle.node_key.specs.declared.seat.PinView.{PinView}
+use Rattle.node_key.specs.Stakes.{Exchanges, stake}
+use Rattle.node_key.specs.declared.stake.Stake.{Stake}
 use Rattle.node_key.specs.Stands.{KeyAt, KidsStand, Stands}
 use Rattle.node_key.specs.Tree.{Kids, Tree, kid, no_kids}
 use Rattle.node_key.specs.declared.key.NodeKey.{NodeKey}

@@ -21,10 +21,10 @@ use Rattle.node_key.specs.Left.{published_if}
 use Rattle.node_key.specs.History.{published_as, ends, opened_ids, info_of, published_of, is_open}
 use Rattle.node_key.specs.History.{tracks_of}
 use Rattle.node_key.specs.History.{published_count}
-use Rattle.hall_trait.proofs.More.{SameData, subject, opened_more, info_more, published_more, count_more}
-use Rattle.hall_trait.proofs.More.{any_more, or_false, data_of_others, fate_of_others, data_sealed}
-use Rattle.hall_trait.proofs.More.{data_dropped}
-use Rattle.hall_trait.proofs.More.{data_asked, fate_asked, fate_published}
+use Rattle.node_key.proofs.HistoryMore.{SameData, subject, opened_more, info_more, published_more, count_more}
+use Rattle.node_key.proofs.HistoryMore.{any_more, or_false, data_of_others, fate_of_others, data_sealed}
+use Rattle.node_key.proofs.HistoryMore.{data_dropped}
+use Rattle.node_key.proofs.HistoryMore.{data_asked, fate_asked, fate_published}
 use Rattle.plain_hall.specs.Kept.{entry_of}
 use Rattle.plain_hall.specs.Orderly.{IsOrderly}
 use Rattle.plain_hall.specs.Spots.{told_at, all_published, roots_at, spot_of, IsTrackSpot, IsTraceSpot, AreSpots}

@@ -14,13 +14,13 @@ use Rattle.node_key.specs.History.{is_open, published_count, MayFollow, IsLegalH
 use Rattle.node_key.specs.History.{IsTrackTree, PublishedTree}
 use Rattle.hall_trait.specs.Pin.{first_id, second_id, id_at}
 use Rattle.plain_hall.specs.PlainSeat.{IsHeld, kept_view}
-use Rattle.node_key.specs.Seat.{PinView}
+use Rattle.node_key.specs.declared.seat.PinView.{PinView}
 use Rattle.plain_hall.specs.declared.kept_pin.KeptPin.{KeptPin}
 use Rattle.std.proofs.lemmas.Bool.{eqb-true}
 use Rattle.std.proofs.lemmas.Bool.Decides.{nat_tests}
 use Rattle.plain_hall.specs.Orderly.{IsOrderly}
 use Rattle.plain_hall.proofs.Legal.{and_left, and_right, in_range}
-use Rattle.hall_trait.proofs.More.{first-append}
+use Rattle.node_key.proofs.HistoryMore.{first-append}
 
 -- the first value that h gives
 abbrev pub first : {X Y : Type 0} → (X → Option Y) → List X → Option Y

@@ -4,7 +4,8 @@ use Rattle.std.proofs.Common.{map, Some, refl, sym, ap, ◌∙◌, arith, sum_by
 use Rattle.std.specs.List.{AllZip}
 use Rattle.std.specs.Prelude.{◌≤◌}
 use Rattle.std.proofs.lemmas.List.Sums.{sum_by-append, sum_by-cons}
-use Rattle.node_key.specs.Stakes.{Exchanges, Stake, same_stake, times}
+use Rattle.node_key.specs.Stakes.{Exchanges, same_stake, times}
+use Rattle.node_key.specs.declared.stake.Stake.{Stake}
 use Rattle.shard_core.specs.Room.{Room}
 use Rattle.hall_trait.specs.Answers.{NextsRise}
 use Rattle.store_laws.specs.Counted.{IsStore, stakes_on}

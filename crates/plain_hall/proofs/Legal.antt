@@ -13,9 +13,9 @@ use Rattle.node_key.specs.History.{Entry, EntryOf, Opened, Published, Sealed, Dr
 use Rattle.node_key.specs.History.{opened_ids, info_of, published_of, is_open, is_loading, tracks_of}
 use Rattle.node_key.specs.History.{published_count, MayFollow, PublishedTree}
 use Rattle.plain_hall.specs.Orderly.{IsOrderly, IsUnborn}
-use Rattle.hall_trait.proofs.More.{SameData, subject, opened_more, info_more, published_more, count_more}
-use Rattle.hall_trait.proofs.More.{data_of_others, fate_of_others, data_sealed, data_dropped, data_closed}
-use Rattle.hall_trait.proofs.More.{data_asked, tracks_same, or_none}
+use Rattle.node_key.proofs.HistoryMore.{SameData, subject, opened_more, info_more, published_more, count_more}
+use Rattle.node_key.proofs.HistoryMore.{data_of_others, fate_of_others, data_sealed, data_dropped, data_closed}
+use Rattle.node_key.proofs.HistoryMore.{data_asked, tracks_same, or_none}
 
 pub range_more : (a n : ℕ) → range_with_len a n ++ (a + n) ∷ [] ≡ range_with_len a (n + 1)
 range_more a zero = let e : a + 0 ≡ a = omega arith in ap (λ x. x ∷ []) e

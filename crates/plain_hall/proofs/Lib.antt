@@ -8,7 +8,6 @@ pub mod Legal
 pub mod OpenRoots
 pub mod Passes
 pub mod Publishing
-pub mod Ranges
 pub mod SampleStakes
 pub mod SampleTracks
 pub mod Samples

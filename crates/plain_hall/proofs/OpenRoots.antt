@@ -14,7 +14,7 @@ use Rattle.node_key.specs.History.{is_open, published_count}
 use Rattle.node_key.specs.Left.{published_if, open_published}
 use Rattle.plain_hall.specs.Spots.{all_published}
 use Rattle.plain_hall.proofs.Passes.{others_agree}
-use Rattle.plain_hall.proofs.Ranges.{AgreeBut}
+use Rattle.node_key.proofs.Ranges.{AgreeBut}
 
 -- one entry more
 open_more : {X : Type 0} (entries : List (EntryOf X)) (e : EntryOf X) (o : Option X)

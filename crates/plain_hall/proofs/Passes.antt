@@ -17,13 +17,14 @@ use Rattle.node_key.specs.History.{opened_ids, info_of, is_open, is_loading, ope
 use Rattle.node_key.specs.History.{published_count, promised}
 use Rattle.plain_hall.specs.Loading.{loading_ids, pass_of, passes_of}
 use Rattle.plain_hall.specs.Orderly.{IsOrderly}
-use Rattle.node_key.specs.Seat.{PassView, Adds, Removes, Replaces}
+use Rattle.node_key.specs.Seat.{Adds, Removes, Replaces}
+use Rattle.node_key.specs.declared.seat.PassView.{PassView}
 use Rattle.plain_hall.proofs.Legal.{open_within, loading_open}
-use Rattle.hall_trait.proofs.More.{SameData, SameFate, subject, opened_more, info_more, count_more, any_more}
-use Rattle.hall_trait.proofs.More.{or_false, data_of_others, fate_of_others, data_asked, fate_asked}
-use Rattle.hall_trait.proofs.More.{fate_published, open_same, loading_same, tracks_same}
-use Rattle.plain_hall.proofs.Ranges.{Lacks, AgreeBut, Around, filters_around, map_same, sum_same, filter_same}
-use Rattle.plain_hall.proofs.Ranges.{range_below, Lacks-filter}
+use Rattle.node_key.proofs.HistoryMore.{SameData, SameFate, subject, opened_more, info_more, count_more, any_more}
+use Rattle.node_key.proofs.HistoryMore.{or_false, data_of_others, fate_of_others, data_asked, fate_asked}
+use Rattle.node_key.proofs.HistoryMore.{fate_published, open_same, loading_same, tracks_same}
+use Rattle.node_key.proofs.Ranges.{Lacks, AgreeBut, Around, filters_around, map_same, sum_same, filter_same}
+use Rattle.node_key.proofs.Ranges.{range_below, Lacks-filter}
 
 -- the places that are promised to the trace, if it is loading
 abbrev pub promise_of : {X : Type 0} → List (EntryOf X) → ℕ → ℕ
@@ -56,8 +57,8 @@ loads_around : {X : Type 0} → (old new : List (EntryOf X)) (id : ℕ) → IsOr
     (opened_ids old)
 loads_around old new id orderly ids agree on =
     let within = open_within old id orderly on in
-    rw orderly.ids (filters_around (is_loading old) (is_loading new) id (length (opened_ids old)) agree.loads
-    within.0 within.1)
+    rw orderly.ids (filters_around (is_loading old) (is_loading new) id 1 (length (opened_ids old)) agree.loads
+    within.0 (omega (arith, within.1)))
 
 loading_same_by : {X : Type 0} → (old new : List (EntryOf X)) (id : ℕ) → opened_ids new ≡ opened_ids old → SameFate old new id
     → is_loading new id ≡ is_loading old id
@@ -253,8 +254,8 @@ dropped_opens entries id orderly loading =
     let agree = others_agree entries (Dropped id) in
     let within = open_within entries id orderly on in
     let parts : Around (is_open entries) (is_open new) id (opened_ids entries) =
-    rw orderly.ids (filters_around (is_open entries) (is_open new) id (length (opened_ids entries))
-    agree.opens within.0 within.1) in
+    rw orderly.ids (filters_around (is_open entries) (is_open new) id 1 (length (opened_ids entries))
+    agree.opens within.0 (omega (arith, within.1))) in
     let was : filter (is_open entries) (opened_ids entries) ≡ parts.front ++ id ∷ []
     ++ parts.back = parts.old ∙ ap (λ b. parts.front ++ cond b (id ∷ []) [] ++ parts.back) on in
     let is : filter (is_open new) (opened_ids new) ≡ parts.front ++ []

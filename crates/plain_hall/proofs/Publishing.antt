@@ -7,7 +7,7 @@ use Rattle.std.proofs.lemmas.List.{take-map}
 use Rattle.trace_base.specs.declared.stream.TrackStream.{TrackStream}
 use Rattle.hall_trait.proofs.Legal.{legal_before}
 use Rattle.hall_trait.specs.Nodes.{TellsTrack}
-use Rattle.hall_trait.specs.declared.answers.Published.TheVariants as told
+use Rattle.trace_base.specs.declared.published.Published.TheVariants as told
 use Rattle.node_key.specs.History.{Entry, EntryOf, Opened, Published, Sealed, Dropped, Closed, Asked, published_as}
 use Rattle.node_key.specs.History.{published_of, published_tree}
 use Rattle.node_key.specs.Stakes.{HasStakes, stake}

@@ -3,7 +3,8 @@ use Rattle.std.proofs.Common.{◌≡◌, ℕ, ◌+◌, List, [], ◌∷◌, leng
 use Rattle.hall_trait.specs.Nodes.{StakesNode}
 use Rattle.node_key.specs.Examples.{track_of_half}
 use Rattle.node_key.specs.Seat.{ExchangesStakes, Seat}
-use Rattle.node_key.specs.Stakes.{HasStakes, Stake, stake, times}
+use Rattle.node_key.specs.Stakes.{HasStakes, stake, times}
+use Rattle.node_key.specs.declared.stake.Stake.{Stake}
 use Rattle.node_key.specs.Tree.{Tree}
 use Rattle.node_key.specs.Trees.{tree}
 use Rattle.node_key.specs.Bound.{bound, grouped}

@@ -13,7 +13,8 @@ use Rattle.hall_trait.specs.Pass.{IsNext, advanced, pass_view, state_at}
 use Rattle.hall_trait.specs.declared.pass.LoadPass.{LoadPass}
 use Rattle.node_key.specs.Examples.{track_of_half}
 use Rattle.node_key.specs.History.{Entry, Published, info_of, published_tree, tracks_of}
-use Rattle.node_key.specs.Seat.{Becomes, ExchangesStakes, IsAtRest, PassView, Removes, Seat}
+use Rattle.node_key.specs.Seat.{Becomes, ExchangesStakes, IsAtRest, Removes, Seat}
+use Rattle.node_key.specs.declared.seat.PassView.{PassView}
 use Rattle.node_key.specs.Stakes.{HasStakes, stake, times}
 use Rattle.node_key.specs.Tree.{Tree}
 use Rattle.plain_hall.proofs.SampleStakes.{has_one, no_stakes, two_calls_tree}

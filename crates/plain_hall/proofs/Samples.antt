@@ -8,7 +8,7 @@ use Rattle.std.proofs.Math.Seq.{get_or-append_seam}
 use Rattle.trace_base.specs.declared.names.TraceInfo.{TraceInfo}
 use Rattle.node_key.specs.History.{Entry, Published, PublishedTree, info_of, tracks_of}
 use Rattle.node_key.specs.Seat.{Adds, Becomes, Removes, Replaces}
-use Rattle.hall_trait.proofs.More.{info_more, or_none}
+use Rattle.node_key.proofs.HistoryMore.{info_more, or_none}
 
 -- an added pass is there, and one in place of another
 pub adds_has : {X : Type 0} (old new : List X) (x : X) → Adds old new x → Contains new x

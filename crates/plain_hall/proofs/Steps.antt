@@ -15,12 +15,13 @@ use Rattle.node_key.specs.History.{open_ids, info_of, is_loading, tracks_of, pub
 use Rattle.node_key.specs.History.{promised, IsTrackTree, MayFollow, PublishedTree}
 use Rattle.plain_hall.specs.Kept.{IsKept}
 use Rattle.plain_hall.specs.PlainSeat.{plain_seat}
-use Rattle.node_key.specs.Seat.{PinView, MakesEntry}
-use Rattle.node_key.specs.Stakes.{Stake}
+use Rattle.node_key.specs.Seat.{MakesEntry}
+use Rattle.node_key.specs.declared.seat.PinView.{PinView}
+use Rattle.node_key.specs.declared.stake.Stake.{Stake}
 use Rattle.plain_hall.proofs.Found.{not_published}
 use Rattle.hall_trait.proofs.Legal.{legal_more}
 use Rattle.plain_hall.proofs.Legal.{orderly_more, orderly_none, range_more}
-use Rattle.hall_trait.proofs.More.{count_more, info_more, or_none}
+use Rattle.node_key.proofs.HistoryMore.{count_more, info_more, or_none}
 use Rattle.plain_hall.proofs.Passes.{promise_of, asked_keeps, published_goes_on, sealed_ends, sealed_opens}
 use Rattle.plain_hall.proofs.Passes.{dropped_ends, dropped_opens, opened_opens}
 

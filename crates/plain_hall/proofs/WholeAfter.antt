@@ -7,12 +7,13 @@ use Rattle.std.proofs.lemmas.List.{append-nil, map-append}
 use Rattle.trace_base.specs.Info.{IsLegalInfo}
 use Rattle.trace_base.specs.declared.limits.TheConstants.{MAX_OPEN_TRACES}
 use Rattle.trace_base.specs.declared.names.TraceInfo.{TraceInfo}
-use Rattle.hall_trait.proofs.More.{any_more, data_asked, fate_asked, fate_published, open_same, opened_more, or_false}
+use Rattle.node_key.proofs.HistoryMore.{any_more, data_asked, fate_asked, fate_published, open_same, opened_more, or_false}
 use Rattle.hall_trait.specs.Answers.{HasRoom, places_of_load}
 use Rattle.node_key.specs.History.{Entry, EntryOf, Opened, Published, Sealed, Dropped, Asked, opened_ids, ends}
 use Rattle.node_key.specs.History.{is_loading, is_open, published_count, tracks_of, IsTrackTree}
 use Rattle.node_key.specs.Left.{open_published}
-use Rattle.node_key.specs.Stakes.{Stake, same_stake, times}
+use Rattle.node_key.specs.Stakes.{same_stake, times}
+use Rattle.node_key.specs.declared.stake.Stake.{Stake}
 use Rattle.node_key.specs.Stands.{KeyAt}
 use Rattle.node_key.specs.declared.key.NodeKey.{NodeKey}
 use Rattle.node_store.proofs.TreesUnder.{tree_still}

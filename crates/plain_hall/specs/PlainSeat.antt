@@ -4,8 +4,9 @@ use Rattle.std.specs.List.{range_with_len}
 use Rattle.node_key.specs.History.{Entry, EntryOf, info_of}
 use Rattle.plain_hall.specs.Loading.{passes_of}
 use Rattle.hall_trait.specs.Pin.{first_id, second_id}
-use Rattle.node_key.specs.Seat.{Seat, PinView}
-use Rattle.node_key.specs.Stakes.{Stake}
+use Rattle.node_key.specs.Seat.{Seat}
+use Rattle.node_key.specs.declared.seat.PinView.{PinView}
+use Rattle.node_key.specs.declared.stake.Stake.{Stake}
 use Rattle.plain_hall.specs.declared.kept_pin.KeptPin.{KeptPin}
 
 -- Each entry is the seat's own, and each loading trace has one pass.

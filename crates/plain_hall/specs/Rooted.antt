@@ -3,7 +3,8 @@ use Rattle.std.specs.Prelude.{◌≡◌, ℕ, List, map, slice_get, Some, IsSome
 use Rattle.node_key.specs.History.{Entry, EntryOf, Opened, Published, Sealed, Dropped, Closed, Asked}
 use Rattle.node_key.specs.History.{PublishedTree}
 use Rattle.node_key.specs.Left.{open_published}
-use Rattle.node_key.specs.Stakes.{Stake, stake}
+use Rattle.node_key.specs.Stakes.{stake}
+use Rattle.node_key.specs.declared.stake.Stake.{Stake}
 use Rattle.node_key.specs.Stands.{KeyAt}
 use Rattle.node_store.specs.TreeUnder.{tree_under}
 use Rattle.plain_hall.specs.declared.root.Root.{Root}

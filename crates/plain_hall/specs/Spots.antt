@@ -11,7 +11,7 @@ use Rattle.node_key.specs.History.{published_of}
 use Rattle.node_key.specs.Left.{published_if}
 use Rattle.node_key.specs.History.{tracks_of, published_count}
 use Rattle.hall_trait.proofs.HistoryProps.{TraceInfo-set}
-use Rattle.node_key.specs.Stakes.{Stake}
+use Rattle.node_key.specs.declared.stake.Stake.{Stake}
 use Rattle.node_store.specs.Given.{ever}
 use Rattle.node_store.specs.Kept.{NodesKept}
 use Rattle.plain_hall.specs.Kept.{entry_of}

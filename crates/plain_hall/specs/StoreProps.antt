@@ -6,7 +6,7 @@ use Rattle.std.proofs.lemmas.Option.{same_Some}
 use base.Stored.{Coded-set}
 use mathlib.Core.HLevel.{is_prop→PathP}
 use Rattle.node_key.specs.Keys.{IsKeyOf, numbered}
-use Rattle.node_key.specs.Stakes.{Stake}
+use Rattle.node_key.specs.declared.stake.Stake.{Stake}
 use Rattle.node_key.specs.Stands.{KeyAt, KidsStand, Stands}
 use Rattle.node_key.specs.Tree.{Kids, Tree, count, kid, no_kids}
 use Rattle.node_key.specs.contracts.key.Kid as kid_type

@@ -1,5 +1,5 @@
 ghost use Rattle.std.specs.Prelude.{◌≡◌, ◌++◌, List};
-ghost use Rattle.node_key.specs.Stakes.{Stake};
+ghost use Rattle.node_key.specs.declared.stake.Stake.{Stake};
 ghost use Rattle.node_store.specs.Kept.{AreKept, KeepsFor, NextNeverFalls};
 ghost use Rattle.plain_hall.specs.Spots.{stakes_at};
 

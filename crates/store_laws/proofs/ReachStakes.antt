@@ -2,7 +2,7 @@
 use Rattle.std.proofs.Common.{◌≡◌, ◌⊎◌, inl, inr, ℕ, zero, suc, ◌+◌, ◌<◌, ◌≤◌, List, sum_by, Some, sym, ap}
 use Rattle.std.proofs.Common.{◌∙◌, subst, arith, nat_eq, eqb-true}
 use Rattle.std.proofs.lemmas.Option.{same_Some}
-use Rattle.node_key.specs.Stakes.{Stake}
+use Rattle.node_key.specs.declared.stake.Stake.{Stake}
 use Rattle.node_key.specs.declared.key.Kid.{Kid}
 use Rattle.shard_core.specs.Room.{Stored}
 use Rattle.store_laws.specs.Counted.{IsStore, kid_places, names_kid, stakes_on}

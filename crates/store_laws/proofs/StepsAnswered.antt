@@ -2,7 +2,8 @@
 use Rattle.std.proofs.Common.{◌≡◌, ℕ, ◌+◌, ◌-◌, ◌≤◌, ◌%◌, List, [], ◌∷◌, Contains, Some, None, Ok, refl}
 use Rattle.std.proofs.Common.{slice_get, slice_set, sym, ◌∙◌, arith, subst, zero-lt-suc}
 use Rattle.node_key.specs.Rooms.{room}
-use Rattle.node_key.specs.Stakes.{Exchanges, HasStakes, IsOverStakes, Stake}
+use Rattle.node_key.specs.Stakes.{Exchanges, HasStakes, IsOverStakes}
+use Rattle.node_key.specs.declared.stake.Stake.{Stake}
 use Rattle.node_key.specs.Stands.{Stands}
 use Rattle.node_key.specs.Tree.{Tree}
 use Rattle.node_key.specs.declared.key.NodeKey.{NodeKey}

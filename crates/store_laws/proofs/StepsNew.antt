@@ -3,7 +3,8 @@ use Rattle.std.proofs.Common.{◌≡◌, ◌⊎◌, inl, inr, ℕ, zero, suc, �
 use Rattle.std.proofs.Common.{option_map, refl, sum_by, sym, ap, ◌∙◌, arith, subst}
 use Rattle.std.proofs.lemmas.Bool.{cases_eq}
 use Rattle.std.proofs.lemmas.Option.{none-some, same_Some}
-use Rattle.node_key.specs.Stakes.{Exchanges, HasStakes, IsOverStakes, Stake}
+use Rattle.node_key.specs.Stakes.{Exchanges, HasStakes, IsOverStakes}
+use Rattle.node_key.specs.declared.stake.Stake.{Stake}
 use Rattle.node_key.specs.Stands.{KidsStand, Stands}
 use Rattle.node_key.specs.Tree.{Tree}
 use Rattle.node_key.specs.declared.key.NodeKey.{NodeKey}

@@ -3,7 +3,8 @@ use Rattle.std.proofs.Common.{◌≡◌, ℕ, zero, suc, List, [], ◌∷◌, le
 use Rattle.std.proofs.Common.{Contains, Some, zero-lt-suc}
 use Rattle.std.proofs.lemmas.List.Elements.{Contains-append_right}
 use Rattle.node_key.specs.Keys.{IsKeyOf, numbered}
-use Rattle.node_key.specs.Stakes.{AreOnKids, Stake}
+use Rattle.node_key.specs.Stakes.{AreOnKids}
+use Rattle.node_key.specs.declared.stake.Stake.{Stake}
 use Rattle.node_key.specs.Stands.{KeyAt, KidsStand, Stands}
 use Rattle.node_key.specs.Tree.{Kids, Tree, count, kid, no_kids}
 use Rattle.node_key.specs.declared.key.Kid.{Kid}

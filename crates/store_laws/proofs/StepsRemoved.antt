@@ -3,7 +3,8 @@ use Rattle.std.proofs.Common.{◌≡◌, ◌⊎◌, inl, inr, ℕ, ◌+◌, List
 use Rattle.std.proofs.Common.{refl, sum_by, sym, ap, ◌∙◌, arith, subst}
 use Rattle.std.proofs.lemmas.Option.{none-some, same_Some}
 use Rattle.node_key.specs.Keys.{IsKeyOf}
-use Rattle.node_key.specs.Stakes.{Exchanges, IsOverStakes, Stake}
+use Rattle.node_key.specs.Stakes.{Exchanges, IsOverStakes}
+use Rattle.node_key.specs.declared.stake.Stake.{Stake}
 use Rattle.node_key.specs.Stands.{Stands}
 use Rattle.node_key.specs.Tree.{Tree}
 use Rattle.node_key.specs.declared.key.Kid.{Kid}

@@ -2,7 +2,7 @@
 use Rattle.std.proofs.Common.{◌≡◌, inl, inr, ℕ, List, [], ◌∷◌, map, flat_map, refl, sym, ap, ◌∙◌, subst}
 use Rattle.std.proofs.lemmas.Option.{same_Some}
 use Rattle.node_key.specs.Keys.{numbered, subtrees, trees_below}
-use Rattle.node_key.specs.Stakes.{Stake}
+use Rattle.node_key.specs.declared.stake.Stake.{Stake}
 use Rattle.node_key.specs.Stands.{KeyAt, KidsStand, Stands}
 use Rattle.node_key.specs.Tree.{Kids, Tree, kid, no_kids}
 use Rattle.node_key.specs.declared.key.Kid.{Kid}

@@ -5,7 +5,8 @@ use Rattle.std.proofs.Common.{true≢false, zero-lt-suc}
 use Rattle.std.proofs.lemmas.Bool.{and_from, and_parts, eq-eqb, eqb-true, cases_eq, ne_eqb}
 use Rattle.std.proofs.lemmas.List.Elements.{Contains-append_right}
 use Rattle.std.proofs.lemmas.List.Sums.{get_or-le-sum_by, sum_by-append, sum_by-cons, sum_by-remove}
-use Rattle.node_key.specs.Stakes.{Exchanges, HasStakes, Stake, same_stake, times}
+use Rattle.node_key.specs.Stakes.{Exchanges, HasStakes, same_stake, times}
+use Rattle.node_key.specs.declared.stake.Stake.{Stake}
 use Rattle.node_key.specs.Tree.{Kids, kid, no_kids, same_kids, same_tree}
 use Rattle.store_laws.specs.Counted.{stakes_on}
 

@@ -1,7 +1,7 @@
 -- Reference counts of the store's nodes, given all stakes on them that are held outside of it.
 use Rattle.std.specs.Prelude.{◌≡◌, ◌+◌, ◌==◌, ℕ, List, count_by, sum_by, Some}
 use Rattle.std.specs.List.{Contains}
-use Rattle.node_key.specs.Stakes.{Stake}
+use Rattle.node_key.specs.declared.stake.Stake.{Stake}
 use Rattle.node_key.specs.Stands.{Stands}
 use Rattle.shard_core.specs.Room.{Stored}
 use Rattle.store_laws.specs.Store.{IsCanonic, Store, key_in, kids_in, node_in, nodes_in}

@@ -1,7 +1,7 @@
 -- Which nodes of the store are reached from stakes.
 use Rattle.std.specs.Prelude.{◌≡◌, ℕ, List, Some}
 use Rattle.std.specs.List.{Contains}
-use Rattle.node_key.specs.Stakes.{Stake}
+use Rattle.node_key.specs.declared.stake.Stake.{Stake}
 use Rattle.node_key.specs.declared.key.Kid.{Kid}
 use Rattle.shard_core.specs.Room.{Stored}
 use Rattle.store_laws.specs.Store.{Store, kids_in, node_in}

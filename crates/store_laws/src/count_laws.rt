@@ -4,7 +4,8 @@ ghost use Rattle.std.specs.Prelude.{◌≡◌, ◌≤◌, ◌%◌, ◌∷◌, []
 ghost use Rattle.std.specs.Prelude.{slice_set};
 ghost use Rattle.node_key.specs.Keys.{distinct};
 ghost use Rattle.node_key.specs.Rooms.{room};
-ghost use Rattle.node_key.specs.Stakes.{Exchanges, HasStakes, IsOverStakes, Stake};
+ghost use Rattle.node_key.specs.Stakes.{Exchanges, HasStakes, IsOverStakes};
+ghost use Rattle.node_key.specs.declared.stake.Stake.{Stake};
 ghost use Rattle.node_key.specs.Tree.{Tree};
 ghost use Rattle.node_key.specs.declared.key.NodeKey.{NodeKey};
 ghost use Rattle.node_key.specs.declared.limits.TheConstants.{MAX_NUMBERS, STORE_ROOMS};

@@ -9,6 +9,7 @@ mod fold_examples;
 mod laws;
 mod legal_examples;
 mod limits;
+mod listing;
 mod matrix;
 mod mem_sink;
 mod mem_source;
@@ -17,6 +18,7 @@ mod messages;
 mod name;
 mod names;
 mod profile;
+mod published;
 mod seq;
 mod sink;
 mod source;
@@ -32,6 +34,7 @@ pub use limits::{
     MAX_PLACES, MAX_REQUEST_LINE, MAX_STATE_EVENTS, MAX_TEXT, MAX_TIME, MAX_TRACE_LINE, MAX_TRACKS,
     MAX_TYPES, MAX_VALUES,
 };
+pub use listing::{ListRow, Listing};
 pub use matrix::{Matrix, MatrixRow};
 pub use mem_sink::MemSink;
 pub use mem_source::MemSource;
@@ -40,6 +43,7 @@ pub use messages::{LinkEvent, Message, MsgTable};
 pub use name::Name;
 pub use names::{Brief, Container, TraceInfo, TraceNames, Track};
 pub use profile::{PathProfile, PathRow, Profile, Row};
+pub use published::Published;
 pub use seq::Seq;
 pub use sink::{Sink, WriteAnswer};
 pub use source::{ReadAnswer, Source};

@@ -9,7 +9,8 @@ use Rattle.hall_trait.specs.Answers.{PinsTraces, TellsUnknown, TellsUsedUp, Reco
 use Rattle.hall_trait.specs.Answers.{NextsRise}
 use Rattle.node_key.specs.History.{Entry, Asked, is_open}
 use Rattle.hall_trait.specs.Pin.{pin_view}
-use Rattle.node_key.specs.Seat.{Seat, PinView, MakesNoEntry, IsAtRest, Removes}
+use Rattle.node_key.specs.Seat.{Seat, MakesNoEntry, IsAtRest, Removes}
+use Rattle.node_key.specs.declared.seat.PinView.{PinView}
 use Rattle.hall_trait.specs.declared.pin.Pin.{Pin}
 use Rattle.session_proto.specs.declared.reply.No.TheVariants as no
 use Rattle.session_proto.specs.declared.reply.Reply.{Reply}

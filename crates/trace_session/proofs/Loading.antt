@@ -11,9 +11,10 @@ use Rattle.trace_base.specs.declared.stream.TrackStream.{TrackStream}
 use Rattle.hall_trait.specs.Answers.{CoversAll, MakesLoadEntry, left_after}
 use Rattle.node_key.specs.History.{Entry, Published, Sealed, Dropped, FitsTrack, info_of, info_opened}
 use Rattle.node_key.specs.History.{published_tree}
-use Rattle.node_key.specs.Stakes.{Stake}
+use Rattle.node_key.specs.declared.stake.Stake.{Stake}
 use Rattle.hall_trait.specs.Pass.{pass_view, state_at, state_after, advanced, IsNext, IsFresh}
-use Rattle.node_key.specs.Seat.{Seat, PassView, Begins, IsAtRest, Becomes, ExchangesStakes}
+use Rattle.node_key.specs.Seat.{Seat, Begins, IsAtRest, Becomes, ExchangesStakes}
+use Rattle.node_key.specs.declared.seat.PassView.{PassView}
 use Rattle.hall_trait.specs.declared.pass.LoadPass.{LoadPass}
 use Rattle.std.specs.List.{filter_map, cons_option}
 use Rattle.trace_session.specs.Load.{AreTracksOf, PublishesAll, GivesUp}

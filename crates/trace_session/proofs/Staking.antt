@@ -3,7 +3,8 @@ use Rattle.std.proofs.Common.{◌≡◌, ℕ, ◌+◌, Bool, true, eqb, List, []
 use Rattle.std.proofs.Common.{arith, cond}
 use Rattle.std.proofs.lemmas.Bool.Decides.{nat_tests}
 use Rattle.std.proofs.lemmas.List.Sums.{sum_by-append}
-use Rattle.node_key.specs.Stakes.{Exchanges, HasStakes, Stake, same_stake, times}
+use Rattle.node_key.specs.Stakes.{Exchanges, HasStakes, same_stake, times}
+use Rattle.node_key.specs.declared.stake.Stake.{Stake}
 use Rattle.node_key.specs.Tree.{Kids, same_kids, no_kids, kid}
 
 itself : (n : ℕ) → eqb n n ≡ true

@@ -1,5 +1,5 @@
 use Rattle.std.proofs.Common.{refl, ◌+◌, ◌∷◌, ◌++◌, List, ◌∙◌, drop, get_or, subst}
-use Rattle.node_key.specs.Stakes.{Stake}
+use Rattle.node_key.specs.declared.stake.Stake.{Stake}
 use Rattle.node_store.specs.Given.{ever}
 use Rattle.node_store.specs.Kept.{KeepsFor}
 use Rattle.plain_hall.specs.Rooted.{root_stake}

@@ -1,5 +1,5 @@
 use Rattle.std.proofs.Common.{◌≡◌, ◌++◌, List, drop}
-use Rattle.node_key.specs.Stakes.{Stake}
+use Rattle.node_key.specs.declared.stake.Stake.{Stake}
 use Rattle.node_store.specs.Kept.{AreKept, KeepsFor, NextNeverFalls}
 use Rattle.plain_hall.specs.Spots.{stakes_at}
 use Rattle.plain_hall.proofs.dropping.drop_roots.Given as goal

@@ -1,5 +1,6 @@
 use Rattle.std.proofs.Common.{List, [], ◌∷◌, sym, ap, subst, ◌∙◌}
-use Rattle.node_key.specs.Stakes.{HasStakes, Stake, stake}
+use Rattle.node_key.specs.Stakes.{HasStakes, stake}
+use Rattle.node_key.specs.declared.stake.Stake.{Stake}
 use Rattle.node_key.specs.Tree.{Tree}
 use Rattle.node_store.specs.Answering.{HasStakeOn, TakesStake}
 use Rattle.node_store.specs.Given.{ever, stakes_of}

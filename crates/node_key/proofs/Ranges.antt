@@ -85,10 +85,10 @@ filter-around p id before after = filter-append p before (id ∷ after) ∙ elim
       | false ↦ ap (λ xs. xs ++ filter p after) (sym (append-nil (filter p before)))
     ]
 
-pub filters_around : (p q : ℕ → Bool) (id n : ℕ) → AgreeBut id p q → 1 ≤ id → id ≤ n
-    → Around p q id (range_with_len 1 n)
-filters_around p q id n agree low high =
-    let parts = range_around 1 n id low (omega arith) in
+pub filters_around : (p q : ℕ → Bool) (id a n : ℕ) → AgreeBut id p q → a ≤ id → id < a + n
+    → Around p q id (range_with_len a n)
+filters_around p q id a n agree low high =
+    let parts = range_around a n id low high in
     record {
       front = filter p parts.0;
       back = filter p parts.1;
