@@ -1,0 +1,275 @@
+-- What one entry more leaves of what a history tells, and what it does to the promised places, where ids
+-- count up from any number.
+use Rattle.std.proofs.Common.{◌≡◌, ℕ, ◌+◌, ◌-◌, ◌<◌, ◌≤◌, inl, inr, Bool, true, false, ◌||◌, ◌&&◌, not, cond}
+use Rattle.std.proofs.Common.{eqb, List, [], ◌∷◌, ◌++◌, length, filter, sum_by, suc, zero, Option, None, Some}
+use Rattle.std.proofs.Common.{refl, sym, ap, ap₂, ◌∙◌, arith, length-append}
+use Rattle.std.specs.List.{list_any, range_with_len}
+use Rattle.std.specs.Option.{option_map_or}
+use Rattle.std.proofs.lemmas.Bool.{and_parts, and_from, and_right, eq-eqb, not_from_false, not_from_true}
+use Rattle.std.proofs.lemmas.Bool.{or_left, or_right}
+use Rattle.std.proofs.lemmas.Bool.Decides.{eqb_tells}
+use Rattle.std.proofs.lemmas.List.{append-nil, take-append-le}
+use Rattle.std.proofs.lemmas.List.Elements.{filter-append}
+use Rattle.std.proofs.lemmas.List.Folds.{list_any-append}
+use Rattle.std.proofs.lemmas.List.Sums.{sum_by-append, sum_by-cons}
+use Rattle.trace_base.specs.declared.names.TraceInfo.{TraceInfo}
+use Rattle.node_key.proofs.HistoryMore.{SameData, any_more, data_of_others, fate_of_others, fate_published}
+use Rattle.node_key.proofs.HistoryMore.{loading_same, open_same, opened_more, or_false, subject, tracks_same}
+use Rattle.node_key.proofs.Ranges.{AgreeBut, Around, Lacks, Lacks-filter, filter_same, filters_around}
+use Rattle.node_key.proofs.Ranges.{range_below, sum_same}
+use Rattle.node_key.specs.History.{EntryOf, Opened, Published, Sealed, ends, info_of, is_loading, is_open}
+use Rattle.node_key.specs.History.{opened_ids, promised, published_count, published_of, seals, tracks_of}
+use Rattle.registry_core.specs.Standing.{IsPublishedBy, IsUntold, KeepsTrace, KeepsTrack, RootsAre, Start}
+use Rattle.registry_core.specs.Trace.{Trace}
+use Rattle.registry_core.specs.declared.track_root.TrackRoot.{TrackRoot}
+
+-- ---- ids that count up
+
+-- one number more
+pub range_more : (a n : ℕ) → range_with_len a n ++ (a + n) ∷ [] ≡ range_with_len a (n + 1)
+range_more a zero = let e : a + 0 ≡ a = omega arith in ap (λ x. x ∷ []) e
+range_more a (suc n) =
+    let e : a + suc n ≡ a + 1 + n = omega arith in
+    let f : suc (n + 1) ≡ suc n + 1 = omega arith in
+    ap (λ x. a ∷ range_with_len (a + 1) n ++ x ∷ []) e ∙ ap (λ xs. a ∷ xs) (range_more (a + 1) n) ∙ ap
+    (range_with_len a) f
+
+-- a number of the range lies in it
+pub in_range : (a n x : ℕ) → list_any (λ other. eqb other x) (range_with_len a n) ≡ true → (a ≤ x)
+    × (x < a + n)
+in_range a zero x any = absurd cc
+in_range a (suc n) x any =
+    elim (eqb_tells a x) [
+      | inl same ↦ (omega arith, omega arith)
+      | inr other ↦
+          let rest : list_any (λ other. eqb other x) (range_with_len (a + 1) n) ≡ true =
+          sym (ap (λ b. b || list_any (λ other. eqb other x) (range_with_len (a + 1) n)) other.0) ∙ any in
+          let within = in_range (a + 1) n x rest in
+          (omega arith, omega arith)
+    ]
+
+-- an open trace has an id that was given
+pub open_within : {X : Type 0} (entries : List (EntryOf X)) (a n id : ℕ)
+    → opened_ids entries ≡ range_with_len a n → is_open entries id ≡ true → (a ≤ id) × (id < a + n)
+unfolding is_open
+open_within entries a n id ids on = in_range a n id
+    (sym (ap (list_any (λ other. eqb other id)) ids) ∙ (and_parts _ _ on).0)
+
+-- a loading trace is open
+pub loading_open : {X : Type 0} (entries : List (EntryOf X)) (id : ℕ) → is_loading entries id ≡ true
+    → is_open entries id ≡ true
+unfolding is_loading
+loading_open entries id loading = (and_parts _ _ loading).0
+
+-- ---- the promised places
+
+-- the places that are promised to a loading trace
+abbrev pub promise_told : {X : Type 0} → List (EntryOf X) → ℕ → ℕ
+promise_told entries id = tracks_of entries id - published_count entries id + 1
+
+-- the places that are promised to a trace
+abbrev pub promised_to : {X : Type 0} → List (EntryOf X) → ℕ → ℕ
+promised_to entries id = cond (is_loading entries id) (promise_told entries id) 0
+
+-- the same data, the same promise
+promise_same : {X : Type 0} (old new : List (EntryOf X)) (id : ℕ) → SameData old new id
+    → promise_told new id ≡ promise_told old id
+promise_same old new id same = rw (same.count, tracks_same old new id same) refl
+
+-- an entry leaves the others loading
+loads_agree : {X : Type 0} (entries : List (EntryOf X)) (e : EntryOf X)
+    → AgreeBut (subject e) (is_loading entries) (is_loading (entries ++ e ∷ []))
+loads_agree entries e x ne =
+    loading_same entries _ x (data_of_others entries e x ne) (fate_of_others entries e x ne)
+
+-- and their promises
+promises_agree : {X : Type 0} (entries : List (EntryOf X)) (e : EntryOf X)
+    → AgreeBut (subject e) (promise_told entries) (promise_told (entries ++ e ∷ []))
+promises_agree entries e x ne = promise_same entries _ x (data_of_others entries e x ne)
+
+-- a sum over three parts, with at most one number in the middle
+sum_around : (f : ℕ → ℕ) (front back : List ℕ) (b : Bool) (id : ℕ)
+    → sum_by f (front ++ cond b (id ∷ []) [] ++ back) ≡ sum_by f front + cond b (f id) 0 + sum_by f back
+sum_around f front back b id =
+    let mid : sum_by f (cond b (id ∷ []) []) ≡ cond b (f id) 0 = elim b as
+    (λ b. sum_by f (cond b (id ∷ []) []) ≡ cond b (f id) 0)
+    [ true ↦ sum_by-cons f id [] ∙ omega arith | false ↦ refl ] in
+    sum_by-append f (front ++ cond b (id ∷ []) []) back ∙ ap (λ n. n + sum_by f back)
+    (sum_by-append f front (cond b (id ∷ []) []) ∙ ap (λ n. sum_by f front + n) mid)
+
+-- an entry that opens nothing changes the promise of its trace alone
+pub promised_more : {X : Type 0} (entries : List (EntryOf X)) (e : EntryOf X) (a n : ℕ)
+    → opened_ids entries ≡ range_with_len a n → opened_ids (entries ++ e ∷ []) ≡ opened_ids entries
+    → a ≤ subject e → subject e < a + n
+    → promised entries + promised_to (entries ++ e ∷ []) (subject e) ≡ promised (entries ++ e ∷ [])
+    + promised_to entries (subject e)
+unfolding promised
+promised_more entries e a n ids same low high =
+    let new = entries ++ e ∷ [] in
+    let id = subject e in
+    let parts : Around (is_loading entries) (is_loading new) id (opened_ids entries) =
+    rw ids (filters_around (is_loading entries) (is_loading new) id a n (loads_agree entries e) low high) in
+    let was : promised entries ≡ sum_by (promise_told entries) parts.front + promised_to entries id
+    + sum_by (promise_told entries) parts.back = ap (sum_by (promise_told entries)) parts.old ∙ sum_around
+    (promise_told entries) parts.front parts.back (is_loading entries id) id in
+    let is : promised new ≡ sum_by (promise_told new) parts.front + promised_to new id
+    + sum_by (promise_told new) parts.back =
+    ap (λ xs. sum_by (promise_told new) (filter (is_loading new) xs)) same ∙
+    ap (sum_by (promise_told new)) parts.new ∙ sum_around (promise_told new) parts.front parts.back
+    (is_loading new id) id in
+    let front : sum_by (promise_told new) parts.front ≡ sum_by (promise_told entries) parts.front =
+    sum_same _ _ id parts.front (promises_agree entries e) parts.lacks_front in
+    let back : sum_by (promise_told new) parts.back ≡ sum_by (promise_told entries) parts.back =
+    sum_same _ _ id parts.back (promises_agree entries e) parts.lacks_back in
+    omega arith
+
+-- an entry that opens a trace adds its promise
+pub promised_opened : {X : Type 0} (entries : List (EntryOf X)) (id : ℕ) (info : TraceInfo) (a n : ℕ)
+    → opened_ids entries ≡ range_with_len a n → id ≡ a + n
+    → promised (entries ++ Opened id info ∷ []) ≡ promised entries
+    + promised_to (entries ++ Opened id info ∷ []) id
+unfolding promised
+promised_opened entries id info a n ids next =
+    let new = entries ++ Opened id info ∷ [] in
+    let lacks : Lacks id (opened_ids entries) = rw ids (range_below a n id (omega arith)) in
+    let loaders = filter (is_loading entries) (opened_ids entries) in
+    let parts : filter (is_loading new) (opened_ids new) ≡ loaders ++ cond (is_loading new id) (id ∷ []) []
+    ++ [] = ap (filter (is_loading new)) (opened_more entries (Opened id info)) ∙ filter-append
+    (is_loading new) (opened_ids entries) (id ∷ []) ∙ ap (λ xs. xs ++ cond (is_loading new id) (id ∷ []) [])
+    (filter_same _ _ id (opened_ids entries) (loads_agree entries (Opened id info)) lacks) ∙ sym
+    (append-nil (loaders ++ cond (is_loading new id) (id ∷ []) [])) in
+    let is : promised new ≡ sum_by (promise_told new) loaders + promised_to new id
+    + sum_by (promise_told new) [] = ap (sum_by (promise_told new)) parts ∙ sum_around (promise_told new)
+    loaders [] (is_loading new id) id in
+    let was : sum_by (promise_told new) loaders ≡ promised entries =
+    sum_same _ _ id loaders (promises_agree entries (Opened id info))
+    (Lacks-filter (is_loading entries) id (opened_ids entries) lacks) in
+    let none : sum_by (promise_told new) [] ≡ 0 = refl in
+    omega arith
+
+-- ---- what is open
+
+-- the same traces are open after an entry that opens and ends none
+pub open_stays : {X : Type 0} (entries : List (EntryOf X)) (e : EntryOf X) (id : ℕ)
+    → opened_ids (entries ++ e ∷ []) ≡ opened_ids entries → ends id e ≡ false
+    → is_open (entries ++ e ∷ []) id ≡ is_open entries id
+unfolding is_open
+open_stays entries e id ids no_end =
+    let ended : list_any (ends id) (entries ++ e ∷ []) ≡ list_any (ends id) entries =
+    any_more (ends id) entries e ∙ ap (λ b. list_any (ends id) entries || b) no_end ∙ or_false _ in
+    rw (ids, ended) refl
+
+-- what is open of others is so after any entry
+pub open_of_others : {X : Type 0} (entries : List (EntryOf X)) (e : EntryOf X) (id : ℕ)
+    → eqb (subject e) id ≡ false → is_open (entries ++ e ∷ []) id ≡ is_open entries id
+open_of_others entries e id ne =
+    open_same entries _ id (data_of_others entries e id ne) (fate_of_others entries e id ne)
+
+-- so is what is loading
+pub loading_of_others : {X : Type 0} (entries : List (EntryOf X)) (e : EntryOf X) (id : ℕ)
+    → eqb (subject e) id ≡ false → is_loading (entries ++ e ∷ []) id ≡ is_loading entries id
+loading_of_others entries e id ne =
+    loading_same entries _ id (data_of_others entries e id ne) (fate_of_others entries e id ne)
+
+-- a trace that is opened is open
+pub opened_opens : {X : Type 0} (entries : List (EntryOf X)) (id : ℕ) (info : TraceInfo) → IsUntold entries id
+    → is_open (entries ++ Opened id info ∷ []) id ≡ true
+unfolding is_open
+opened_opens entries id info none =
+    let new = entries ++ Opened id info ∷ [] in
+    let this = eq-eqb id id refl in
+    let among : list_any (λ other. eqb other id) (opened_ids new) ≡ true =
+    ap (list_any (λ other. eqb other id)) (opened_more entries (Opened id info)) ∙ list_any-append
+    (λ other. eqb other id) (opened_ids entries) (id ∷ []) ∙ or_right _ _ (or_left _ _ this) in
+    let on : list_any (ends id) new ≡ false = any_more (ends id) entries (Opened id info) ∙ or_false _ ∙
+    none.ended in
+    and_from _ _ among (not_from_false _ on)
+
+-- and loading
+pub opened_loads : {X : Type 0} (entries : List (EntryOf X)) (id : ℕ) (info : TraceInfo) → IsUntold entries id
+    → is_loading (entries ++ Opened id info ∷ []) id ≡ true
+unfolding is_loading
+opened_loads entries id info none =
+    let unsealed : list_any (seals id) (entries ++ Opened id info ∷ []) ≡ false =
+    any_more (seals id) entries (Opened id info) ∙ or_false _ ∙ none.sealed in
+    and_from _ _ (opened_opens entries id info none) (not_from_false _ unsealed)
+
+-- a trace of which a track is published loads on
+pub loading_published : {X : Type 0} (entries : List (EntryOf X)) (other track : ℕ) (what : X) (id : ℕ)
+    → is_loading (entries ++ Published other track what ∷ []) id ≡ is_loading entries id
+unfolding is_loading
+loading_published entries other track what id =
+    let ids : opened_ids (entries ++ Published other track what ∷ []) ≡ opened_ids entries =
+    opened_more entries (Published other track what) ∙ append-nil (opened_ids entries) in
+    ap₂ (λ a b. a && not b) (open_stays entries (Published other track what) id ids refl)
+    (fate_published entries other track what id).sealed
+
+-- a trace that is sealed no longer loads
+pub sealed_loaded : {X : Type 0} (entries : List (EntryOf X)) (id : ℕ)
+    → is_loading (entries ++ Sealed id ∷ []) id ≡ false
+unfolding is_loading
+sealed_loaded entries id =
+    let sealed : list_any (seals id) (entries ++ Sealed id ∷ []) ≡ true =
+    any_more (seals id) entries (Sealed id) ∙ or_right _ _ (eq-eqb id id refl) in
+    and_right _ _ (not_from_true _ sealed)
+
+-- ---- what is told of a trace
+
+-- the number of the tracks of a trace with this info
+pub tracks_told : {X : Type 0} (entries : List (EntryOf X)) (id : ℕ) (info : TraceInfo)
+    → info_of entries id ≡ Some info → tracks_of entries id ≡ length info.names.tracks
+tracks_told entries id info told = ap (λ o. option_map_or (λ (i : TraceInfo). length i.names.tracks) o 0) told
+
+-- a trace of which nothing was told stays so, but for an entry of its own
+pub untold_stays : {X : Type 0} (entries : List (EntryOf X)) (e : EntryOf X) (id : ℕ)
+    → eqb (subject e) id ≡ false → IsUntold entries id → IsUntold (entries ++ e ∷ []) id
+untold_stays entries e id ne was =
+    let same = data_of_others entries e id ne in
+    let fate = fate_of_others entries e id ne in
+    record {
+      info = same.info ∙ was.info;
+      count = same.count ∙ was.count;
+      published = λ track. same.published track ∙ was.published track;
+      sealed = fate.sealed ∙ was.sealed;
+      ended = fate.ended ∙ was.ended;
+    }
+
+-- what was published by an entry was so in a history that goes on
+pub published_by_stays : {X : Type 0} (entries : List (EntryOf X)) (e : EntryOf X) (id track n : ℕ) (what : X)
+    → IsPublishedBy entries id track n what → IsPublishedBy (entries ++ e ∷ []) id track n what
+published_by_stays entries e id track n what was = record {
+  least = was.least;
+  most = omega (arith, was.most, length-append entries (e ∷ []));
+  before = ap (λ es. published_of es id track)
+      (take-append-le (n - 1) entries (e ∷ []) (omega (arith, was.most))) ∙ was.before;
+  from = ap (λ es. published_of es id track) (take-append-le n entries (e ∷ []) was.most) ∙ was.from;
+}
+
+-- the slot of a track keeps what is told of it
+pub keeps_track_stays : {X : Type 0} (are : RootsAre X) (start : Start) (entries : List (EntryOf X))
+    (e : EntryOf X) (id track : ℕ) (slot : Option TrackRoot)
+    → published_of (entries ++ e ∷ []) id track ≡ published_of entries id track
+    → KeepsTrack are start entries id track slot → KeepsTrack are start (entries ++ e ∷ []) id track slot
+keeps_track_stays are start entries e id track None same keeps = same ∙ keeps
+keeps_track_stays are start entries e id track (Some r) same (what, is, low, by) =
+    (what, is, low, published_by_stays entries e id track (r.place - start.place) what by)
+
+-- a trace keeps what is told of it, with what is told of its load
+pub keeps_trace_stays : {X : Type 0} (are : RootsAre X) (start : Start) (entries : List (EntryOf X))
+    (e : EntryOf X) (t : Trace) (loading : Bool) → SameData entries (entries ++ e ∷ []) t.id
+    → loading ≡ is_loading (entries ++ e ∷ []) t.id → KeepsTrace are start entries t
+    → KeepsTrace are start (entries ++ e ∷ []) (record t { loading = loading })
+keeps_trace_stays are start entries e t loading same load keeps = record {
+  info = same.info ∙ keeps.info;
+  loading = load;
+  count = keeps.count ∙ sym same.count;
+  tracks = λ track slot at. keeps_track_stays are start entries e t.id track slot (same.published track)
+      (keeps.tracks track slot at);
+}
+
+-- an entry that isn't about the trace leaves it
+pub keeps_trace_of_others : {X : Type 0} (are : RootsAre X) (start : Start) (entries : List (EntryOf X))
+    (e : EntryOf X) (t : Trace) → eqb (subject e) t.id ≡ false → KeepsTrace are start entries t
+    → KeepsTrace are start (entries ++ e ∷ []) t
+keeps_trace_of_others are start entries e t ne keeps = keeps_trace_stays are start entries e t t.loading
+    (data_of_others entries e t.id ne) (keeps.loading ∙ sym (loading_of_others entries e t.id ne)) keeps

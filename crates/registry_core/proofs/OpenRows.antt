@@ -1,0 +1,232 @@
+-- The open traces of a registry and the open ids of its history are one list, and so are their rows.
+use Rattle.std.proofs.Common.{◌≡◌, ℕ, ◌+◌, ◌<◌, Bool, true, false, ◌&&◌, ◌||◌, inl, inr, not, cond, eqb, List}
+use Rattle.std.proofs.Common.{[], ◌∷◌, suc, zero, length, map, filter, All, Contains, Some, refl, sym, ap}
+use Rattle.std.proofs.Common.{ap₂, ◌∙◌, subst, arith, get_or}
+use Rattle.std.specs.Prelude.{is_some}
+use Rattle.std.specs.Cmp.{nat_cmp_is}
+use Rattle.std.specs.List.{AllByRecursion, list_any, range_with_len}
+use Rattle.std.specs.List.Sorted.{IsStrictlySortedBy}
+use Rattle.std.specs.Option.{option_map_or}
+use Rattle.std.specs.Ordering.{nat_cmp}
+use Rattle.std.specs.declared.cmp.Ordering.TheVariants.{Less}
+use Rattle.std.proofs.lemmas.Bool.{and_parts, eq-eqb, eqb-true, true≢false}
+use Rattle.std.proofs.lemmas.Bool.Decides.{eqb_tells, nat_tests}
+use Rattle.std.proofs.lemmas.Cmp.{nat_cmp_total}
+use Rattle.std.proofs.lemmas.List.{get_or-map, length-map}
+use Rattle.std.proofs.lemmas.List.Elements.{All-cons, All-contains, All-filter, All-from_recursion, All-head}
+use Rattle.std.proofs.lemmas.List.Elements.{All-tail, filter_passes}
+use Rattle.std.proofs.lemmas.List.Sums.{length-filter}
+use Rattle.std.proofs.lemmas.List.Kept.{IsStrictlySortedBy-filter}
+use Rattle.trace_base.specs.declared.names.TraceInfo.{TraceInfo}
+use Rattle.trace_base.proofs.InOrder.{has_cons, has_here, has_there, rising-unique}
+use Rattle.node_key.specs.History.{EntryOf, is_open, open_ids, opened_ids, tracks_of}
+use Rattle.registry_core.specs.Closing.{rows_of}
+use Rattle.registry_core.specs.Registry.{RegistryValue, is_open_trace, kept_trace, open_count, open_trace}
+use Rattle.registry_core.specs.Standing.{KeepsTrace, RootsAre, StandsFor, Start, row_told}
+use Rattle.registry_core.specs.Trace.{IsSoundTrace, Trace, row_of}
+
+-- ---- rising lists
+
+-- a lesser number comes before
+less_of : (x y : ℕ) → x < y → nat_cmp x y ≡ Less
+less_of x y lt = sym (nat_cmp_is x y Less lt)
+
+-- a number that comes before another isn't it
+less_differ : (x y : ℕ) → nat_cmp x y ≡ Less → eqb x y ≡ false
+less_differ x y less = grind (arith, nat_tests)
+
+-- a range from a greater number on lies behind
+range_above : (a b n : ℕ) → a < b → AllByRecursion (λ y. nat_cmp a y ≡ Less) (range_with_len b n)
+range_above a b zero lt = tt
+range_above a b (suc n) lt = (less_of a b lt, range_above a (b + 1) n (omega arith))
+
+-- a range rises
+range_rises : (a n : ℕ) → IsStrictlySortedBy nat_cmp (range_with_len a n)
+unfolding IsStrictlySortedBy
+range_rises a zero = tt
+range_rises a (suc n) = (range_above a (a + 1) n (omega arith), range_rises (a + 1) n)
+
+-- what holds of all keys holds of the keys of the items that pass a test
+filtered_above : {X K : Type 0} (P : K → Type 0) (key : X → K) (p : X → Bool) (xs : List X)
+    → AllByRecursion P (map key xs) → AllByRecursion P (map key (filter p xs))
+filtered_above P key p [] all = tt
+filtered_above P key p (x ∷ xs) all = elim (p x) as (λ b. AllByRecursion P
+    (map key (cond b (x ∷ filter p xs) (filter p xs)))) [
+      | true ↦ (all.0, filtered_above P key p xs all.1)
+      | false ↦ filtered_above P key p xs all.1
+    ]
+
+-- the keys of the items that pass a test rise, where those of all items do
+filtered_rises : {X : Type 0} (key : X → ℕ) (p : X → Bool) (xs : List X)
+    → IsStrictlySortedBy nat_cmp (map key xs) → IsStrictlySortedBy nat_cmp (map key (filter p xs))
+unfolding IsStrictlySortedBy
+filtered_rises key p [] up = tt
+filtered_rises key p (x ∷ xs) up = elim (p x) as (λ b. IsStrictlySortedBy nat_cmp
+    (map key (cond b (x ∷ filter p xs) (filter p xs)))) [
+      | true ↦ (filtered_above (λ y. nat_cmp (key x) y ≡ Less) key p xs up.0, filtered_rises key p xs up.1)
+      | false ↦ filtered_rises key p xs up.1
+    ]
+
+-- ---- what a filtered list has
+
+-- an item that passes the test is among those that do
+filter_has : {X : Type 0} (p : X → Bool) (xs : List X) (x : X) → Contains xs x → p x ≡ true
+    → Contains (filter p xs) x
+filter_has p [] x has passes = absurd (omega (arith, has.1))
+filter_has {X} p (y ∷ ys) x has passes =
+    elim (has_cons y x ys has) [
+      | inl same ↦ subst (λ (b : Bool). Contains (cond b (y ∷ filter p ys) (filter p ys)) x)
+          (sym (ap p same ∙ passes))
+          (subst (λ (z : X). Contains (y ∷ filter p ys) z) same (has_here y (filter p ys)))
+      | inr later ↦ elim (p y) as (λ b. Contains (cond b (y ∷ filter p ys) (filter p ys)) x) [
+        | true ↦ has_there y x (filter p ys) (filter_has p ys x later passes)
+        | false ↦ filter_has p ys x later passes
+      ]
+    ]
+
+-- an id that a list is said to have stands in it
+any_has : (xs : List ℕ) (id : ℕ) → list_any (λ other. eqb other id) xs ≡ true → Contains xs id
+any_has [] id any = absurd cc
+any_has (x ∷ xs) id any = elim (eqb_tells x id) [
+  | inl same ↦ subst (λ (y : ℕ). Contains (x ∷ xs) y) same.1 (has_here x xs)
+  | inr other ↦ has_there x id xs
+      (any_has xs id (sym (ap (λ b. b || list_any (λ other. eqb other id) xs) other.0) ∙ any))
+]
+
+-- ---- the open ids
+
+-- an id that is open is among the open ids
+open_id_has : {X : Type 0} (entries : List (EntryOf X)) (id : ℕ) → is_open entries id ≡ true
+    → Contains (open_ids entries) id
+unfolding open_ids is_open
+open_id_has entries id on = filter_has (is_open entries) (opened_ids entries) id
+    (any_has (opened_ids entries) id (and_parts _ _ on).0) on
+
+-- an id among the open ids is open
+open_id_is : {X : Type 0} (entries : List (EntryOf X)) (id : ℕ) → Contains (open_ids entries) id
+    → is_open entries id ≡ true
+unfolding open_ids
+open_id_is entries id has = All-contains (λ x. is_open entries x ≡ true) _ id
+    (filter_passes (is_open entries) (opened_ids entries)) has
+
+-- the open ids rise, where ids are given in order
+open_ids_rise : {X : Type 0} (start : ℕ) (entries : List (EntryOf X))
+    → opened_ids entries ≡ range_with_len start (length (opened_ids entries))
+    → IsStrictlySortedBy nat_cmp (open_ids entries)
+unfolding open_ids
+open_ids_rise start entries ids = IsStrictlySortedBy-filter nat_cmp (is_open entries) (opened_ids entries)
+    (subst (IsStrictlySortedBy nat_cmp) (sym ids) (range_rises start (length (opened_ids entries))))
+
+-- ---- the ids of the open traces
+
+-- their ids
+abbrev pub ids_of : List Trace → List ℕ
+ids_of traces = map (λ (t : Trace). t.id) traces
+
+-- an id that finds an open trace is among the ids of the open traces
+open_trace_has : (traces : List Trace) (id : ℕ) → is_some (open_trace traces id) ≡ true
+    → Contains (ids_of (filter is_open_trace traces)) id
+open_trace_has [] id is = absurd cc
+open_trace_has (t ∷ traces) id is = by (eqb t.id id) (not t.closing) refl is (open_trace_has traces id)
+  where
+    rest : List Trace
+    rest = filter is_open_trace traces
+
+    by : (same on : Bool) → eqb t.id id ≡ same
+        → is_some (cond (same && on) (Some t) (open_trace traces id)) ≡ true
+        → (is_some (open_trace traces id) ≡ true → Contains (ids_of rest) id)
+        → Contains (ids_of (cond on (t ∷ rest) rest)) id
+    by true true same is later = subst (λ (x : ℕ). Contains (t.id ∷ ids_of rest) x) (eqb-true t.id id same)
+        (has_here t.id (ids_of rest))
+    by true false same is later = later is
+    by false true same is later = has_there t.id id (ids_of rest) (later is)
+    by false false same is later = later is
+
+-- an id among the ids of the open traces finds one
+open_trace_is : (traces : List Trace) (id : ℕ) → Contains (ids_of (filter is_open_trace traces)) id
+    → is_some (open_trace traces id) ≡ true
+open_trace_is [] id has = absurd (omega (arith, has.1))
+open_trace_is (t ∷ traces) id has = by (eqb t.id id) (not t.closing) refl has (open_trace_is traces id)
+  where
+    rest : List Trace
+    rest = filter is_open_trace traces
+
+    by : (same on : Bool) → eqb t.id id ≡ same → Contains (ids_of (cond on (t ∷ rest) rest)) id
+        → (Contains (ids_of rest) id → is_some (open_trace traces id) ≡ true)
+        → is_some (cond (same && on) (Some t) (open_trace traces id)) ≡ true
+    by true true same has later = refl
+    by true false same has later = later has
+    by false true same has later = elim (has_cons t.id id (ids_of rest) has) [
+      | inl here ↦ absurd (true≢false (sym (eq-eqb t.id id here) ∙ same))
+      | inr there ↦ later there
+    ]
+    by false false same has later = later has
+
+-- ---- each kept trace is found by its id
+
+-- each trace is found by its id, where ids rise
+kept_each : (traces : List Trace) → IsStrictlySortedBy nat_cmp (ids_of traces)
+    → All (λ t. kept_trace traces t.id ≡ Some t) traces
+unfolding IsStrictlySortedBy
+kept_each [] up = λ k d lt. absurd (omega (arith, lt))
+kept_each (t ∷ traces) up = All-cons (λ x. kept_trace (t ∷ traces) x.id ≡ Some x) t traces
+    (ap (λ b. cond b (Some t) (kept_trace traces t.id)) (eq-eqb t.id t.id refl))
+    (λ k d lt.
+    let x = get_or traces k d in
+    let above : nat_cmp t.id x.id ≡ Less = All-contains (λ y. nat_cmp t.id y ≡ Less) (ids_of traces) x.id
+    (All-from_recursion (λ y. nat_cmp t.id y ≡ Less) (ids_of traces) up.0) (
+      k,
+      omega (arith, lt, length-map traces (λ (x : Trace). x.id)),
+      get_or-map (λ (x : Trace). x.id) traces k d x.id lt,
+    ) in
+    ap (λ b. cond b (Some t) (kept_trace traces x.id)) (less_differ t.id x.id above)
+    ∙ kept_each traces up.1 k d lt)
+
+-- what f makes of each item, g makes of its key
+map_told : {X K Y : Type 0} (key : X → K) (f : X → Y) (g : K → Y) (xs : List X)
+    → All (λ x. f x ≡ g (key x)) xs → map f xs ≡ map g (map key xs)
+map_told key f g [] all = refl
+map_told key f g (x ∷ xs) all = ap₂ ◌∷◌ (All-head (λ y. f y ≡ g (key y)) x xs all)
+    (map_told key f g xs (All-tail (λ y. f y ≡ g (key y)) x xs all))
+
+-- ---- a registry that stands for its history
+
+-- the open traces have the ids that are open
+pub open_ids_are : {X : Type 0} (are : RootsAre X) (start : Start) (r : RegistryValue)
+    (entries : List (EntryOf X)) → StandsFor are start r entries
+    → ids_of (filter is_open_trace r.traces) ≡ open_ids entries
+open_ids_are are start r entries stands = rising-unique nat_cmp nat_cmp_total _ _
+    (filtered_rises (λ (t : Trace). t.id) is_open_trace r.traces stands.sound.rising)
+    (open_ids_rise start.id entries stands.ids)
+    (λ id has. open_id_has entries id (stands.opens id ∙ open_trace_is r.traces id has))
+    (λ id has. open_trace_has r.traces id (sym (stands.opens id) ∙ open_id_is entries id has))
+
+-- there are as many open traces as open ids
+pub open_count_told : {X : Type 0} (are : RootsAre X) (start : Start) (r : RegistryValue)
+    (entries : List (EntryOf X)) → StandsFor are start r entries
+    → open_count r.traces ≡ length (open_ids entries)
+open_count_told are start r entries stands =
+    sym (length-filter is_open_trace r.traces)
+    ∙ sym (length-map (filter is_open_trace r.traces) (λ (t : Trace). t.id))
+    ∙ ap length (open_ids_are are start r entries stands)
+
+-- the row of a trace is told
+row_is : {X : Type 0} (are : RootsAre X) (start : Start) (place : ℕ) (entries : List (EntryOf X)) (t : Trace)
+    → KeepsTrace are start entries t → IsSoundTrace place t → row_of t ≡ row_told entries t.id
+row_is are start place entries t keeps sound =
+    let tracks : length t.tracks ≡ tracks_of entries t.id = sound.tracks
+    ∙ sym (ap (λ o. option_map_or (λ (info : TraceInfo). length info.names.tracks) o 0) keeps.info) in
+    λ i. record { id = t.id; tracks = tracks i; published = keeps.count i; loading = keeps.loading i }
+
+-- the rows of the registry are those that its history tells
+pub rows_told : {X : Type 0} (are : RootsAre X) (start : Start) (r : RegistryValue)
+    (entries : List (EntryOf X)) → StandsFor are start r entries
+    → rows_of r ≡ map (row_told entries) (open_ids entries)
+rows_told are start r entries stands =
+    let each : All (λ t. row_of t ≡ row_told entries t.id) r.traces = λ k d lt.
+    let t = get_or r.traces k d in
+    row_is are start r.place entries t
+    (stands.traces t.id t (kept_each r.traces stands.sound.rising k d lt)) (stands.sound.each k d lt) in
+    map_told (λ (t : Trace). t.id) row_of (row_told entries) (filter is_open_trace r.traces)
+    (All-filter is_open_trace (λ t. row_of t ≡ row_told entries t.id) r.traces each)
+    ∙ ap (map (row_told entries)) (open_ids_are are start r entries stands)

@@ -1,0 +1,11 @@
+use Rattle.std.proofs.Common.{refl, subst, sym, arith}
+use Rattle.trace_base.specs.declared.asks.AskIds.TheVariants.{One}
+use Rattle.registry_core.specs.Asking.{AreUsed}
+use Rattle.registry_core.specs.Examples.{ended_trace, only_first, with_one}
+use Rattle.registry_core.proofs.Samples.{All-one, IsUsed}
+use Rattle.registry_core.proofs.tests.give_back_last.Goals as goal
+
+pub unpin-first-requires : goal.unpin-first-requires
+unpin-first-requires g c = subst (λ r. AreUsed r (One 1)) (sym c.requires)
+    (All-one (IsUsed (with_one 4 0 (ended_trace 1 only_first)) (One 1)) 1
+    (ended_trace 1 only_first, refl, omega arith))

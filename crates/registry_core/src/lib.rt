@@ -1,0 +1,28 @@
+//! The registry of a hall as a value: which traces are open or still in use, what is published of each, and
+//! the places of the hall's history that are taken or promised.
+#![tactic(auto)]
+
+mod answers;
+mod examples;
+mod kept_trace;
+mod laws;
+mod registry;
+mod roots;
+mod same_names;
+#[cfg(test)]
+mod tests;
+mod traces;
+mod track_root;
+
+pub use answers::{Opened, RegAsk, RegClose, RegEnd, RegFault, RegUnpin};
+pub use examples::{
+    close_with_two_users, first_that_is_unknown, load_beside_a_query, loads_given_up, named_twice,
+    names_compared, roots_between_gaps, the_last_places, told_by_places,
+};
+pub use laws::{
+    abandoning, admitting, asking, closing, giving_back, listing, more_keys, publishing, sealing,
+    starting, telling,
+};
+pub use registry::Registry;
+pub use roots::Roots;
+pub use track_root::TrackRoot;
