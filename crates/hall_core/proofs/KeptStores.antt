@@ -1,0 +1,148 @@
+-- What one seat does in the store keeps it, for its stakes and those of all others.
+use Rattle.std.proofs.Common.{◌≡◌, ◌⊎◌, inl, inr, ℕ, ◌%◌, ◌≤◌, Bool, true, false, List, [], ◌∷◌, ◌++◌}
+use Rattle.std.proofs.Common.{Contains, Some, refl, sym, ap, ◌∙◌, arith, length, map, slice_get, slice_set}
+use Rattle.std.proofs.Common.{subst}
+use Rattle.std.proofs.lemmas.List.Sums.{sum_by-cons}
+use Rattle.node_key.specs.Keys.{numbered}
+use Rattle.node_key.specs.Stakes.{AreOnKids, Exchanges, HasStakes, IsOverStakes, same_stake, times}
+use Rattle.node_key.specs.Stands.{Stands}
+use Rattle.node_key.specs.Tree.{Kids, Tree, kid, no_kids}
+use Rattle.node_key.specs.declared.key.Kid.{Kid}
+use Rattle.node_key.specs.declared.key.NodeKey.{NodeKey}
+use Rattle.node_key.specs.declared.limits.TheConstants.{STORE_ROOMS}
+use Rattle.node_key.specs.declared.stake.Stake.{Stake}
+use Rattle.shard_core.specs.Interning.{Drops}
+use Rattle.shard_core.specs.Room.{Room}
+use Rattle.shard_core.specs.declared.answers.Dropped.{Dropped}
+use Rattle.shard_core.specs.declared.answers.Dropped.TheVariants.{Kept, Removed}
+use Rattle.shard_core.specs.declared.answers.Interned.{Interned}
+use Rattle.shard_core.specs.declared.answers.Interned.TheVariants.{Known, New}
+use Rattle.store_laws.specs.Counted.{IsStore}
+use Rattle.store_laws.specs.Store.{Store, key_in}
+use Rattle.store_laws.proofs.StepsAnswered.{dropped_kept, dropped_removed, interned_known, interned_new}
+use Rattle.store_laws.proofs.StepsOfKids.{numbers}
+use Rattle.store_laws.proofs.SumsOfStakes.{from_either, one_if, same_stake-true, stakes_exchanged}
+use Rattle.store_laws.proofs.SumsOfStakes.{times_from_there}
+use Rattle.hall_core.specs.Steps.{AreFreed, DropsIn, InternsIn}
+use Rattle.hall_core.proofs.SeatStakes.{exchanges-among, times-append}
+
+-- ---- stakes that move
+
+-- no other stake is held
+stands_by : (rooms : Store) (held : List Stake) (x : Stake) → IsStore rooms held
+    → Contains held x ⊎ Contains [] x → Stands (key_in rooms) x.number x.tree
+stands_by rooms held x store (inl there) = store.counted.stands x there
+stands_by rooms held x store (inr there) = absurd (omega (arith, there.1))
+
+-- it only counts how often each stake is held
+pub moved : (rooms : Store) (held held' : List Stake) → IsStore rooms held → Exchanges held held' [] []
+    → IsStore rooms held'
+moved rooms held held' store swap = record {
+  canonic = store.canonic;
+  counted = record {
+    stands = λ x there. stands_by rooms held x store (from_either held held' [] [] x swap there);
+    counts = λ n s at.
+        omega (arith, store.counted.counts n s at, stakes_exchanged n held held' [] [] swap);
+  };
+}
+
+-- ---- a key that is entered
+
+-- what is among some of the stakes is among all
+pub has-among : (mine others wanted : List Stake) → HasStakes mine wanted → HasStakes (mine ++ others) wanted
+has-among mine others wanted has x = omega (arith, has x, times-append x mine others)
+
+-- the store is kept, whether or not the key is new
+pub interned : (key : NodeKey) (i : Interned) (rooms rooms' : Store) (mine mine' others : List Stake)
+    → IsStore rooms (mine ++ others) → InternsIn key i rooms mine rooms' mine'
+    → IsStore rooms' (mine' ++ others)
+interned key (Known n) rooms rooms' mine mine' others store is =
+    subst (λ (r : Store). IsStore r (mine' ++ others)) (sym is.rooms_now)
+    (interned_known rooms (mine ++ others) (mine' ++ others) is.kids is.tree key is.before is.after n store
+    is.there is.over (has-among mine others is.kids is.has) is.answered
+    (exchanges-among mine mine' [] (record { number = n; tree = is.tree } ∷ []) others is.exchanged))
+interned key (New n) rooms rooms' mine mine' others store is =
+    subst (λ (r : Store). IsStore r (mine' ++ others)) (sym is.rooms_now)
+    (interned_new rooms (mine ++ others) (mine' ++ others) is.kids is.tree key is.before is.after n store
+    is.there is.over (has-among mine others is.kids is.has) is.answered
+    (exchanges-among mine mine' is.kids (record { number = n; tree = is.tree } ∷ []) others is.exchanged))
+
+-- ---- the stakes on the kids of a key
+
+no_cons : {X : Type 0} → (x : X) (xs : List X) → x ∷ xs ≡ [] → ⊥
+no_cons x xs same = let long = ap length same in omega (arith, long)
+
+first_same : {X : Type 0} → (x y : X) (xs ys : List X) → x ∷ xs ≡ y ∷ ys → x ≡ y
+first_same x y xs ys same = cc
+
+rest_same : {X : Type 0} → (x y : X) (xs ys : List X) → x ∷ xs ≡ y ∷ ys → xs ≡ ys
+rest_same x y xs ys same = cc
+
+-- stakes on kids that have the same numbers are the same
+one_on_kids : (k : Kids) (xs ys : List Stake) → AreOnKids k xs → AreOnKids k ys
+    → numbered k (numbers xs) ≡ numbered k (numbers ys) → xs ≡ ys
+one_on_kids no_kids [] [] at_x at_y same = refl
+one_on_kids no_kids (x ∷ xs) ys at_x at_y same = absurd (no_cons _ _ at_x)
+one_on_kids no_kids [] (y ∷ ys) at_x at_y same = absurd (no_cons _ _ at_y)
+one_on_kids (kid gap func dur inner more) [] ys at_x at_y same = absurd (no_cons _ _ (sym at_x))
+one_on_kids (kid gap func dur inner more) (x ∷ xs) [] at_x at_y same = absurd (no_cons _ _ (sym at_y))
+one_on_kids (kid gap func dur inner more) (x ∷ xs) (y ∷ ys) at_x at_y same =
+    let first = first_same _ _ (numbered more (numbers xs)) (numbered more (numbers ys)) same in
+    let rest = rest_same _ _ (numbered more (numbers xs)) (numbered more (numbers ys)) same in
+    let number : x.number ≡ y.number = ap (λ (k : Kid). k.node) first in
+    let tree : x.tree ≡ y.tree = first_same _ _ (map (λ (s : Stake). s.tree) xs) _ at_x
+    ∙ sym (first_same _ _ (map (λ (s : Stake). s.tree) ys) _ at_y) in
+    let others = one_on_kids more xs ys (rest_same x.tree _ (map (λ (s : Stake). s.tree) xs) _ at_x)
+    (rest_same y.tree _ (map (λ (s : Stake). s.tree) ys) _ at_y) rest in
+    λ i. (let s : Stake = record { number = number i; tree = tree i } in s) ∷ others i
+
+-- a key over a tree tells the stakes on its kids
+pub one_over : (t : Tree) (xs ys : List Stake) (key : NodeKey) → IsOverStakes t xs key → IsOverStakes t ys key
+    → xs ≡ ys
+one_over t xs ys key a b = one_on_kids t.kids xs ys a.kids b.kids (sym a.key_of.kids ∙ b.key_of.kids)
+
+-- ---- a stake that is given back
+
+-- a stake counts at most once in a list of one
+has_by : (mine others : List Stake) (x z : Stake) (b : Bool) → same_stake z x ≡ b → Contains mine x
+    → times z (x ∷ []) ≤ times z (mine ++ others)
+has_by mine others x z true is there =
+    let first = sum_by-cons (λ (y : Stake). one_if (same_stake z y)) x [] in
+    let here = ap one_if is in
+    let at = times_from_there z mine (subst (Contains mine) (sym (same_stake-true z x is)) there) in
+    omega (arith, first, here, at, times-append z mine others)
+has_by mine others x z false is there =
+    let first = sum_by-cons (λ (y : Stake). one_if (same_stake z y)) x [] in
+    let here = ap one_if is in
+    omega (arith, first, here)
+
+-- a stake is one of all
+has_one : (mine others : List Stake) (x : Stake) → Contains mine x → HasStakes (mine ++ others) (x ∷ [])
+has_one mine others x there z = has_by mine others x z (same_stake z x) refl there
+
+-- the store is kept for a stake that is given back, whether or not its node goes
+drops : (d : Dropped) (rooms : Store) (held left : List Stake) (x : Stake) (kids : List Stake)
+    (before after : Room) → IsStore rooms held → slice_get rooms (x.number % STORE_ROOMS) ≡ Some before
+    → HasStakes held (x ∷ []) → Drops before x.number d after → AreFreed x.tree d kids
+    → Exchanges held left (x ∷ []) kids → IsStore (slice_set rooms (x.number % STORE_ROOMS) after) left
+drops Kept rooms held left x kids before after store at has answered freed swap =
+    dropped_kept rooms held left x before after store at has answered
+    (subst (λ (ks : List Stake). Exchanges held left (x ∷ []) ks) freed swap)
+drops (Removed key) rooms held left x kids before after store at has answered freed swap =
+    let gone = dropped_removed rooms held x key before after store at has answered in
+    gone.2 left (subst (λ (ks : List Stake). Exchanges held left (x ∷ []) ks)
+    (one_over x.tree kids gone.0 key freed gone.1) swap)
+
+-- the store is kept where a stake on a number is given back
+pub dropped : (n : ℕ) (d : Dropped) (rooms rooms' : Store) (mine mine' others : List Stake)
+    → IsStore rooms (mine ++ others) → DropsIn n d rooms mine rooms' mine'
+    → IsStore rooms' (mine' ++ others)
+dropped n d rooms rooms' mine mine' others store is =
+    let number = sym is.is_on in
+    let now = is.rooms_now ∙ ap (λ (m : ℕ). slice_set rooms (m % STORE_ROOMS) is.after) number in
+    subst (λ (r : Store). IsStore r (mine' ++ others)) (sym now)
+    (drops d rooms (mine ++ others) (mine' ++ others) is.stake is.kids is.before is.after store
+    (subst (λ (m : ℕ). slice_get rooms (m % STORE_ROOMS) ≡ Some is.before) number is.there)
+    (has_one mine others is.stake is.has)
+    (subst (λ (m : ℕ). Drops is.before m d is.after) number is.answered) is.freed
+    (exchanges-among mine mine' (is.stake ∷ []) is.kids others is.exchanged))
