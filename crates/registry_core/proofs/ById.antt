@@ -9,14 +9,15 @@ use Rattle.std.specs.Map.{keys_of, values_of, lookup, remove_entry, set_value}
 use Rattle.std.specs.Cmp.{nat_cmp_is}
 use Rattle.std.specs.Ordering.{is_eq}
 use Rattle.std.specs.declared.cmp.Ordering.TheVariants.{Less, Equal, Greater}
-use Rattle.std.proofs.lemmas.Bool.{cases_Bool, cases_order, cond_both, cond-false, cond-true, eqb-true}
+use Rattle.std.proofs.lemmas.Bool.{cases_Bool, cases_order, cond-false, cond-true}
 use Rattle.std.proofs.lemmas.Bool.{eq-eqb, ne_eqb}
-use Rattle.std.proofs.lemmas.List.Elements.{All-head, All-map, All-tail, All-weaker}
+use Rattle.std.proofs.lemmas.List.Elements.{All-head, All-tail}
 use Rattle.std.proofs.lemmas.Map.Entries.{option_filter}
 use Rattle.std.proofs.lemmas.Map.Keys.{sorted_tail}
 use Rattle.registry_core.specs.Registry.{has_id, kept_trace, with_changed, without_trace}
 use Rattle.registry_core.specs.Trace.{Trace}
-use Rattle.registry_core.proofs.EndTraces.{IsRising, none_behind}
+use Rattle.registry_core.proofs.KeptTraces.{IsRising, find-has_id, ids_of, none_behind, with_changed-none}
+use Rattle.registry_core.proofs.KeptTraces.{without_trace-none}
 use Rattle.registry_core.proofs.LawTraces.{KeepsId}
 
 -- ---- numbers as keys
@@ -34,10 +35,6 @@ is_at_number id k = elim (cases_order id k) [
 -- a trace as an entry, under its id
 abbrev pub entry_of : Trace → ℕ × Trace
 entry_of t = (t.id, t)
-
--- the ids of traces
-abbrev pub ids_of : List Trace → List ℕ
-ids_of traces = map (λ (t : Trace). t.id) traces
 
 -- these entries are of these traces, whose ids rise
 pub record AreKept (es : List (ℕ × Trace)) (traces : List Trace) : Type 0 where
@@ -101,32 +98,6 @@ lookup_kept {es} {traces} id k = ap (lookup (is_at (nat_cmp id))) k.entries ∙ 
 
 -- ---- changing the trace of an id
 
--- a trace that isn't kept isn't changed
-pub with_changed-none : (id : ℕ) (f : Trace → Trace) (traces : List Trace) → kept_trace traces id ≡ None
-    → with_changed id f traces ≡ traces
-with_changed-none id f [] none = refl
-with_changed-none id f (t ∷ traces) none = elim (cases_Bool (eqb t.id id)) [
-  | inl hit ↦ let found = rw hit at none in absurd cc
-  | inr miss ↦
-      let later = rw miss at none in rw miss (ap (λ ts. t ∷ ts) (with_changed-none id f traces later))
-]
-
--- it isn't taken out
-pub without_trace-none : (id : ℕ) (traces : List Trace) → kept_trace traces id ≡ None
-    → without_trace id traces ≡ traces
-without_trace-none id [] none = refl
-without_trace-none id (t ∷ traces) none = elim (cases_Bool (eqb t.id id)) [
-  | inl hit ↦ let found = rw hit at none in absurd cc
-  | inr miss ↦
-      let later = rw miss at none in rw miss (ap (λ ts. t ∷ ts) (without_trace-none id traces later))
-]
-
--- behind a trace there is none of its id
-behind_hit : (id : ℕ) (t : Trace) (traces : List Trace) → IsRising (t ∷ traces) → eqb t.id id ≡ true
-    → kept_trace traces id ≡ None
-behind_hit id t traces rising hit =
-    subst (λ n. kept_trace traces n ≡ None) (eqb-true t.id id hit) (none_behind t traces rising)
-
 -- among traces as entries, whose ids rise, what is written is changed
 set_in_traces : (id : ℕ) (f : Trace → Trace) → KeepsId f → (traces : List Trace) (t : Trace)
     → IsRising traces → kept_trace traces id ≡ Some t
@@ -136,7 +107,7 @@ set_in_traces id f stays (x ∷ traces) t rising found = elim (cases_Bool (eqb x
   | inl hit ↦
       let here = rw hit at found in
       let same : x ≡ t = cc in
-      let behind = with_changed-none id f traces (behind_hit id x traces rising hit) in
+      let behind = with_changed-none id f traces (none_behind id x traces rising hit) in
       rw (is_at_number, hit) (ap₂ (λ (e : ℕ × Trace) ts. e ∷ map entry_of ts)
       (ap₂ (λ n v. (n, v)) (sym (stays x)) (ap f (sym same))) (sym behind))
   | inr miss ↦
@@ -157,14 +128,6 @@ changed_kept {es} {traces} id f stays t w new k found is wrote rising = record {
       ∙ set_in_traces id f stays traces t (ids_rise k) (sym (lookup_kept id k) ∙ found);
 }
 
--- what holds of each trace, with the one of an id changed
-pub All-with_changed : (P Q : Trace → Type 0) (id : ℕ) (f : Trace → Trace)
-    → ((t : Trace) → P t → eqb t.id id ≡ true → Q (f t)) → ((t : Trace) → P t → eqb t.id id ≡ false → Q t)
-    → (traces : List Trace) → All P traces → All Q (with_changed id f traces)
-All-with_changed P Q id f changed others traces all =
-    All-map Q (λ t. cond (eqb t.id id) (f t) t) traces (All-weaker P (λ t. Q (cond (eqb t.id id) (f t) t))
-    (λ t p. cond_both (eqb t.id id) (f t) t Q (changed t p) (others t p)) traces all)
-
 -- ---- taking a trace out
 
 -- among traces as entries, whose ids rise, what is taken out is the one trace of the id
@@ -173,7 +136,7 @@ remove_in_traces : (id : ℕ) (traces : List Trace) → IsRising traces
 remove_in_traces id [] rising = refl
 remove_in_traces id (t ∷ traces) rising = elim (cases_Bool (eqb t.id id)) [
   | inl hit ↦ rw (is_at_number, hit)
-      (ap (map entry_of) (sym (without_trace-none id traces (behind_hit id t traces rising hit))))
+      (ap (map entry_of) (sym (without_trace-none id traces (none_behind id t traces rising hit))))
   | inr miss ↦ rw (is_at_number, miss) (ap (λ es. entry_of t ∷ es)
       (remove_in_traces id traces (sorted_tail nat_cmp t.id (ids_of traces) rising)))
 ]
@@ -237,19 +200,6 @@ lent_kept id t k lent = sym (lookup_kept id k) ∙ sym lent
 
 -- ---- a trace that passes a test
 
--- the trace of an id that passes a test is the one of that id, if it does
-pub find-has_id : (p : Trace → Bool) (id : ℕ) (traces : List Trace) → IsRising traces
-    → find (λ t. has_id id t && p t) traces ≡ option_filter p (kept_trace traces id)
-find-has_id p id [] rising = refl
-find-has_id p id (t ∷ traces) rising = elim (cases_Bool (eqb t.id id)) [
-  | inl hit ↦
-      let none = behind_hit id t traces rising hit in
-      let behind = find-has_id p id traces (sorted_tail nat_cmp t.id (ids_of traces) rising)
-      ∙ ap (option_filter p) none in
-      rw hit (ap (λ o. cond (p t) (Some t) o) behind)
-  | inr miss ↦ rw miss (find-has_id p id traces (sorted_tail nat_cmp t.id (ids_of traces) rising))
-]
-
 -- where it doesn't pass all stay
 pub filter-not_has_id-none : (p : Trace → Bool) (id : ℕ) (traces : List Trace)
     → find (λ t. has_id id t && p t) traces ≡ None → filter (λ t. not (has_id id t && p t)) traces ≡ traces
@@ -268,7 +218,7 @@ pub filter-not_has_id : (p : Trace → Bool) (id : ℕ) (traces : List Trace) (t
 filter-not_has_id p id [] t rising found passes = refl
 filter-not_has_id p id (x ∷ traces) t rising found passes = elim (cases_Bool (eqb x.id id)) [
   | inl hit ↦
-      let none = behind_hit id x traces rising hit in
+      let none = none_behind id x traces rising hit in
       let here = rw hit at found in
       let same : x ≡ t = cc in
       let stays = filter-not_has_id-none p id traces (find-has_id p id traces
@@ -280,12 +230,6 @@ filter-not_has_id p id (x ∷ traces) t rising found passes = elim (cases_Bool (
       rw miss (ap (λ ts. x ∷ ts) (filter-not_has_id p id traces t
       (sorted_tail nat_cmp x.id (ids_of traces) rising) later passes))
 ]
-
--- where no trace has the id none is found
-pub find-has_id-none : (p : Trace → Bool) (id : ℕ) (traces : List Trace)
-    → IsRising traces → kept_trace traces id ≡ None
-    → find (λ t. has_id id t && p t) traces ≡ None
-find-has_id-none p id traces rising none = find-has_id p id traces rising ∙ ap (option_filter p) none
 
 -- where the one of the id doesn't pass none is found
 pub find-has_id-not : (p : Trace → Bool) (id : ℕ) (traces : List Trace) (t : Trace)

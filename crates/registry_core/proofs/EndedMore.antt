@@ -1,20 +1,20 @@
 -- What a history tells after an entry that ends a trace.
-use Rattle.std.proofs.Common.{◌≡◌, ℕ, ◌+◌, ◌-◌, ◌<◌, ◌≤◌, Bool, true, false, ◌&&◌, ◌||◌, not, cond, eqb, List}
+use Rattle.std.proofs.Common.{◌≡◌, ℕ, ◌+◌, ◌<◌, ◌≤◌, Bool, true, false, ◌&&◌, ◌||◌, not, cond, eqb, List}
 use Rattle.std.proofs.Common.{[], ◌∷◌, ◌++◌, length, filter, sum_by, None, refl, sym, ap, ap₂, ◌∙◌, inl, inr}
-use Rattle.std.proofs.Common.{zero, suc, arith, append-nil, eq-eqb}
+use Rattle.std.proofs.Common.{arith, append-nil, eq-eqb}
 use Rattle.std.specs.List.{list_any, range_with_len}
 use Rattle.std.specs.Option.{option_to_list}
+use Rattle.std.proofs.Math.Bool.{and-false, and-true}
 use Rattle.std.proofs.Math.Path.{fun_ext}
 use Rattle.std.proofs.lemmas.List.Elements.{filter_agree}
-use Rattle.std.proofs.lemmas.List.Sums.{sum_by-append, sum_by-cons}
 use Rattle.std.proofs.lemmas.Bool.Decides.{eqb_tells}
 use Rattle.node_key.specs.History.{Closed, Dropped, EntryOf, ends, is_loading, is_open, opened_id, opened_ids}
 use Rattle.node_key.specs.History.{promised, seals}
-use Rattle.node_key.proofs.HistoryMore.{AddsNothing, SameData, SameData-from_nothing, any_more, or_false}
-use Rattle.node_key.proofs.HistoryMore.{opened_more, subject, tracks_same}
+use Rattle.node_key.proofs.HistoryMore.{SameData, any_more, data_closed, data_dropped, opened_more, or_false}
+use Rattle.node_key.proofs.HistoryMore.{subject}
 use Rattle.node_key.proofs.Ranges.{AgreeBut, filters_around}
-use Rattle.registry_core.proofs.EndTraces.{and_false, and_true}
-use Rattle.registry_core.proofs.KeepsMore.{promise_told}
+use Rattle.registry_core.proofs.KeepsMore.{promise_same, promise_told, promised_to}
+use Rattle.registry_core.proofs.LawEntries.{loading_open, open_within, sum_around}
 
 -- the entry ends this trace, and tells nothing else
 pub record IsEndOf {X : Type 0} (e : EntryOf X) (id : ℕ) : Type 0 where
@@ -22,7 +22,7 @@ pub record IsEndOf {X : Type 0} (e : EntryOf X) (id : ℕ) : Type 0 where
   pub opens : opened_id e ≡ None
   pub ended : (x : ℕ) → ends x e ≡ eqb id x
   pub sealed : (x : ℕ) → seals x e ≡ false
-  pub adds : (x : ℕ) → AddsNothing e x
+  pub told : (entries : List (EntryOf X)) (x : ℕ) → SameData entries (entries ++ e ∷ []) x
 
 -- a trace that is dropped ends
 pub IsEndOf-dropped : {X : Type 0} (id : ℕ) → IsEndOf {X = X} (Dropped id) id
@@ -31,7 +31,7 @@ IsEndOf-dropped id = record {
   opens = refl;
   ended = λ x. refl;
   sealed = λ x. refl;
-  adds = λ x. record { opened = refl; info = refl; count = refl; published = λ track. refl };
+  told = λ entries x. data_dropped entries id x;
 }
 
 -- so does one that is closed
@@ -41,13 +41,8 @@ IsEndOf-closed id = record {
   opens = refl;
   ended = λ x. refl;
   sealed = λ x. refl;
-  adds = λ x. record { opened = refl; info = refl; count = refl; published = λ track. refl };
+  told = λ entries x. data_closed entries id x;
 }
-
--- no data is added to any trace
-pub ended_data : {X : Type 0} (entries : List (EntryOf X)) (e : EntryOf X) (id x : ℕ) → IsEndOf e id
-    → SameData entries (entries ++ e ∷ []) x
-ended_data entries e id x end = SameData-from_nothing entries e x (end.adds x)
 
 -- no trace is opened
 pub ended_ids : {X : Type 0} (entries : List (EntryOf X)) (e : EntryOf X) (id : ℕ) → IsEndOf e id
@@ -88,24 +83,6 @@ ended_loading entries e id x end = ap₂ (λ a b. a && not b) (ended_open entrie
 
 -- ---- promised places
 
--- the first of two tests that pass
-and_left : (a b : Bool) → (a && b) ≡ true → a ≡ true
-and_left true b e = refl
-and_left false b e = e
-
--- a number that is found in a range is in it
-pub in_range : (a n x : ℕ) → list_any (λ other. eqb other x) (range_with_len a n) ≡ true
-    → (a ≤ x) × (x < a + n)
-in_range a zero x any = absurd cc
-in_range a (suc n) x any = elim (eqb_tells a x) [
-  | inl same ↦ (omega arith, omega arith)
-  | inr other ↦
-      let rest : list_any (λ y. eqb y x) (range_with_len (a + 1) n) ≡ true =
-      sym (ap (λ b. b || list_any (λ y. eqb y x) (range_with_len (a + 1) n)) other.0) ∙ any in
-      let within = in_range (a + 1) n x rest in
-      (omega arith, omega arith)
-]
-
 -- a sum over those that pass loses what one of them adds, where it no longer passes
 sum_without : (f : ℕ → ℕ) (p q : ℕ → Bool) (id a n : ℕ) → AgreeBut id p q → q id ≡ false
     → (p id ≡ true → (a ≤ id) × (id < a + n)) → sum_by f (filter p (range_with_len a n))
@@ -116,20 +93,11 @@ sum_without f p q id a n agree failed within = go (p id) refl
         ≡ sum_by f (filter q (range_with_len a n)) + cond b (f id) 0
     go true passed =
         let parts = filters_around p q id a n agree (within passed).0 (within passed).1 in
-        let was : filter p (range_with_len a n) ≡ parts.front ++ id ∷ [] ++ parts.back = parts.old
-        ∙ ap (λ b. parts.front ++ cond b (id ∷ []) [] ++ parts.back) passed in
-        let is : filter q (range_with_len a n) ≡ parts.front ++ [] ++ parts.back = parts.new
-        ∙ ap (λ b. parts.front ++ cond b (id ∷ []) [] ++ parts.back) failed in
-        omega (
-          arith,
-          ap (sum_by f) was,
-          ap (sum_by f) is,
-          sum_by-append f (parts.front ++ id ∷ []) parts.back,
-          sum_by-append f parts.front (id ∷ []),
-          sum_by-cons f id [],
-          sum_by-append f (parts.front ++ []) parts.back,
-          sum_by-append f parts.front [],
-        )
+        let was = ap (sum_by f) parts.old ∙ sum_around f parts.front parts.back (p id) id in
+        let is = ap (sum_by f) parts.new ∙ sum_around f parts.front parts.back (q id) id in
+        let one : cond (p id) (f id) 0 ≡ f id = ap (λ b. cond b (f id) 0) passed in
+        let none : cond (q id) (f id) 0 ≡ 0 = ap (λ b. cond b (f id) 0) failed in
+        omega (arith, was, is, one, none)
     go false fails =
         let same : (x : ℕ) → p x ≡ q x = λ x. elim (eqb_tells id x) [
           | inl this ↦ ap p (sym this.1) ∙ fails ∙ sym failed ∙ ap q this.1
@@ -137,34 +105,25 @@ sum_without f p q id a n agree failed within = go (p id) refl
         ] in
         omega (arith, ap (sum_by f) (filter_agree p q same (range_with_len a n)))
 
--- a loading trace has an id that was given
-pub loading_within : {X : Type 0} (entries : List (EntryOf X)) (id first : ℕ)
-    → opened_ids entries ≡ range_with_len first (length (opened_ids entries)) → is_loading entries id ≡ true
-    → (first ≤ id) × (id < first + length (opened_ids entries))
-unfolding is_loading is_open
-loading_within entries id first ids loading = in_range first (length (opened_ids entries)) id
-    (ap (list_any (λ other. eqb other id)) (sym ids) ∙ and_left _ _ (and_left _ _ loading))
-
 -- the promised places lose those of the trace
 pub ended_promised : {X : Type 0} (entries : List (EntryOf X)) (e : EntryOf X) (id first : ℕ) → IsEndOf e id
     → opened_ids entries ≡ range_with_len first (length (opened_ids entries))
     → promised entries
-    ≡ promised (entries ++ e ∷ []) + cond (is_loading entries id) (promise_told entries id) 0
+    ≡ promised (entries ++ e ∷ []) + promised_to entries id
 unfolding promised
 ended_promised entries e id first end ids =
     let new = entries ++ e ∷ [] in
     let n = length (opened_ids entries) in
     let agree : AgreeBut id (is_loading entries) (is_loading new) =
-    λ x ne. ended_loading entries e id x end ∙ ap (λ b. is_loading entries x && not b) ne ∙ and_true _ in
+    λ x ne. ended_loading entries e id x end ∙ ap (λ b. is_loading entries x && not b) ne ∙ and-true _ in
     let failed : is_loading new id ≡ false = ended_loading entries e id id end
-    ∙ ap (λ b. is_loading entries id && not b) (eq-eqb id id refl) ∙ and_false _ in
-    let same : promise_told new ≡ promise_told entries = fun_ext (λ x.
-    let told = ended_data entries e id x end in
-    ap₂ (λ k m. k - m + 1) (tracks_same entries new x told) told.count) in
+    ∙ ap (λ b. is_loading entries id && not b) (eq-eqb id id refl) ∙ and-false _ in
+    let same : promise_told new ≡ promise_told entries =
+    fun_ext (λ x. promise_same entries new x (end.told entries x)) in
     let now : promised new
     ≡ sum_by (promise_told entries) (filter (is_loading new) (range_with_len first n)) =
     ap₂ (λ f xs. sum_by f (filter (is_loading new) xs)) same (ended_ids entries e id end ∙ ids) in
     ap (λ xs. sum_by (promise_told entries) (filter (is_loading entries) xs)) ids
     ∙ sum_without (promise_told entries) (is_loading entries) (is_loading new) id first n agree failed
-    (loading_within entries id first ids)
-    ∙ ap (λ m. m + cond (is_loading entries id) (promise_told entries id) 0) (sym now)
+    (λ loads. open_within entries first n id ids (loading_open entries id loads))
+    ∙ ap (λ m. m + promised_to entries id) (sym now)

@@ -1,11 +1,10 @@
--- Lists that are filtered: what is kept, summed or found of them, and keys that rise.
+-- Lists that are filtered: what is kept or summed of them, and keys that rise.
 use Rattle.std.proofs.Common.{◌≡◌, ℕ, ◌+◌, Bool, true, false, cond, ◌&&◌, List, [], ◌∷◌, map, filter, All}
-use Rattle.std.proofs.Common.{sum_by, Option, None, Some, refl, sym, ap, ap₂, ◌∙◌, arith, subst, nat_cmp}
-use Rattle.std.specs.List.{AllByRecursion, find}
+use Rattle.std.proofs.Common.{sum_by, refl, sym, ap, ap₂, ◌∙◌, arith, nat_cmp}
+use Rattle.std.specs.List.{AllByRecursion}
 use Rattle.std.specs.List.Sorted.{IsStrictlySortedBy}
 use Rattle.std.proofs.lemmas.List.Elements.{All-cons, All-head, All-nil, All-tail}
 use Rattle.std.proofs.lemmas.List.Sums.{sum_by-cons}
-use Rattle.std.proofs.lemmas.Option.{none-some, same_Some}
 
 module _ {X : Type 0} where
   -- two tests that agree at each item of a list keep the same of it
@@ -39,28 +38,6 @@ module _ {X : Type 0} where
         | false ↦ λ zero. rest ∙ omega (arith, zero refl, sum_by-cons g x xs)
       ] here
 
-  -- what is looked for stays in a filtered list, or is left out of it
-  pub find-filter : (p q : X → Bool) (b : Bool) → ((x : X) → q x ≡ true → p x ≡ b) → (xs : List X)
-      → find q (filter p xs) ≡ cond b (find q xs) None
-  find-filter p q b same [] = elim b as (λ b. ◌≡◌ {A = Option X} None (cond b None None))
-      [ true ↦ refl | false ↦ refl ]
-  find-filter p q b same (x ∷ xs) =
-      let rest = find-filter p q b same xs in
-      elim (p x) as (λ px. (q x ≡ true → px ≡ b) → find q (cond px (x ∷ filter p xs) (filter p xs))
-      ≡ cond b (find q (x ∷ xs)) None) [
-        | true ↦ elim (q x) as (λ qx. (qx ≡ true → true ≡ b) → cond qx (Some x) (find q (filter p xs))
-            ≡ cond b (cond qx (Some x) (find q xs)) None) [
-              | true ↦ λ here. ap (λ c. cond c (Some x) None) (here refl)
-              | false ↦ λ here. rest
-            ]
-        | false ↦ elim (q x) as (λ qx. (qx ≡ true → false ≡ b) → find q (filter p xs)
-            ≡ cond b (cond qx (Some x) (find q xs)) None) [
-              | true ↦ λ here. rest ∙ ap (λ c. cond c (find q xs) None) (sym (here refl))
-                  ∙ ap (λ c. cond c (Some x) None) (here refl)
-              | false ↦ λ here. rest
-            ]
-      ] (same x)
-
   -- what holds of each key of a list holds of each key of a filtered one
   all-filter : (P : ℕ → Type 0) (key : X → ℕ) (p : X → Bool) (xs : List X) → AllByRecursion P (map key xs)
       → AllByRecursion P (map key (filter p xs))
@@ -87,12 +64,3 @@ module _ {X : Type 0} where
       → All (λ x. P (key x)) xs
   all_of_keys P key [] all = All-nil (λ x. P (key x))
   all_of_keys P key (x ∷ xs) all = All-cons (λ x. P (key x)) x xs all.0 (all_of_keys P key xs all.1)
-
-  -- what holds of each item holds of one that is found
-  pub All-found : (P : X → Type 0) (p : X → Bool) (xs : List X) (x : X) → All P xs → find p xs ≡ Some x → P x
-  All-found P p [] x all found = absurd (none-some x found)
-  All-found P p (y ∷ xs) x all found =
-      elim (p y) as (λ b. cond b (Some y) (find p xs) ≡ Some x → P x) [
-        | true ↦ λ here. subst P (same_Some y x here) (All-head P y xs all)
-        | false ↦ λ later. All-found P p xs x (All-tail P y xs all) later
-      ] found

@@ -1,12 +1,12 @@
 -- What the registry keeps of a trace, and what is told of none, after one more entry.
-use Rattle.std.proofs.Common.{◌≡◌, ℕ, ◌+◌, ◌-◌, ◌≤◌, List, [], ◌∷◌, ◌++◌, length, Option, None, Some, sym, ap}
-use Rattle.std.proofs.Common.{ap₂, ◌∙◌, cond, subst, arith, length-append}
+use Rattle.std.proofs.Common.{◌≡◌, ℕ, ◌+◌, ◌-◌, ◌≤◌, List, [], ◌∷◌, ◌++◌, length, Option, None, Some}
+use Rattle.std.proofs.Common.{refl, sym, ap, ap₂, ◌∙◌, cond, subst, arith, length-append}
 use Rattle.std.specs.Prelude.{slice_get}
 use Rattle.std.specs.Option.{option_map_or}
 use Rattle.std.proofs.lemmas.List.{take-append-le}
 use Rattle.trace_base.specs.declared.names.TraceInfo.{TraceInfo}
-use Rattle.node_key.specs.History.{EntryOf, is_loading, published_count, published_of, tracks_of}
-use Rattle.node_key.proofs.HistoryMore.{SameData, SameFate}
+use Rattle.node_key.specs.History.{EntryOf, info_of, is_loading, published_count, published_of, tracks_of}
+use Rattle.node_key.proofs.HistoryMore.{SameData, SameFate, tracks_same}
 use Rattle.registry_core.specs.Standing.{IsPublishedBy, IsUntold, KeepsTrace, KeepsTrack, RootsAre, Start}
 use Rattle.registry_core.specs.Trace.{Trace, promise_of}
 use Rattle.registry_core.specs.declared.track_root.TrackRoot.{TrackRoot}
@@ -81,16 +81,30 @@ IsUntold-more entries e id told fate none = record {
   ended = fate.ended ∙ none.ended;
 }
 
+-- the number of the tracks of a trace with this info
+pub tracks_told : {X : Type 0} (entries : List (EntryOf X)) (id : ℕ) (info : TraceInfo)
+    → info_of entries id ≡ Some info → tracks_of entries id ≡ length info.names.tracks
+tracks_told entries id info told = ap (λ o. option_map_or (λ (i : TraceInfo). length i.names.tracks) o 0) told
+
 -- the places that the history promises to a trace, if it is loading
 abbrev pub promise_told : {X : Type 0} → List (EntryOf X) → ℕ → ℕ
 promise_told entries id = tracks_of entries id - published_count entries id + 1
 
+-- it is the same where the same data is told
+pub promise_same : {X : Type 0} (old new : List (EntryOf X)) (id : ℕ) → SameData old new id
+    → promise_told new id ≡ promise_told old id
+promise_same old new id same = rw (same.count, tracks_same old new id same) refl
+
+-- and in any case
+abbrev pub promised_to : {X : Type 0} → List (EntryOf X) → ℕ → ℕ
+promised_to entries id = cond (is_loading entries id) (promise_told entries id) 0
+
+-- the trace has a slot for each of its tracks
+abbrev pub HasSlots : Trace → Type 0
+HasSlots t = length t.tracks ≡ length t.info.names.tracks
+
 -- what is promised to a kept trace is what the history promises to it
 pub promise_kept : {X : Type 0} (are : RootsAre X) (start : Start) (entries : List (EntryOf X)) (t : Trace)
-    → KeepsTrace are start entries t → length t.tracks ≡ length t.info.names.tracks
-    → promise_of t ≡ cond (is_loading entries t.id) (promise_told entries t.id) 0
+    → KeepsTrace are start entries t → HasSlots t → promise_of t ≡ promised_to entries t.id
 promise_kept are start entries t keeps long = ap₂ (λ b n. cond b n 0) keeps.loading
-    (ap₂ (λ m n. m - n + 1) (long ∙ sym told) keeps.count)
-  where
-    told : tracks_of entries t.id ≡ length t.info.names.tracks
-    told = ap (λ o. option_map_or (λ (info : TraceInfo). length info.names.tracks) o 0) keeps.info
+    (ap₂ (λ m n. m - n + 1) (long ∙ sym (tracks_told entries t.id t.info keeps.info)) keeps.count)

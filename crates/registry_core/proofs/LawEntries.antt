@@ -1,38 +1,29 @@
 -- What one entry more leaves of what a history tells, and what it does to the promised places, where ids
 -- count up from any number.
-use Rattle.std.proofs.Common.{◌≡◌, ℕ, ◌+◌, ◌-◌, ◌<◌, ◌≤◌, inl, inr, Bool, true, false, ◌||◌, ◌&&◌, not, cond}
-use Rattle.std.proofs.Common.{eqb, List, [], ◌∷◌, ◌++◌, length, filter, sum_by, suc, zero, Option, None, Some}
-use Rattle.std.proofs.Common.{refl, sym, ap, ap₂, ◌∙◌, arith, length-append}
+use Rattle.std.proofs.Common.{◌≡◌, ℕ, ◌+◌, ◌<◌, ◌≤◌, inl, inr, Bool, true, false, ◌||◌, ◌&&◌, not, cond}
+use Rattle.std.proofs.Common.{eqb, List, [], ◌∷◌, ◌++◌, filter, sum_by, suc, zero, refl, sym, ap, ap₂, ◌∙◌}
+use Rattle.std.proofs.Common.{arith}
 use Rattle.std.specs.List.{list_any, range_with_len}
-use Rattle.std.specs.Option.{option_map_or}
 use Rattle.std.proofs.lemmas.Bool.{and_parts, and_from, and_right, eq-eqb, not_from_false, not_from_true}
 use Rattle.std.proofs.lemmas.Bool.{or_left, or_right}
 use Rattle.std.proofs.lemmas.Bool.Decides.{eqb_tells}
-use Rattle.std.proofs.lemmas.List.{append-nil, take-append-le}
+use Rattle.std.proofs.lemmas.List.{append-nil}
 use Rattle.std.proofs.lemmas.List.Elements.{filter-append}
 use Rattle.std.proofs.lemmas.List.Folds.{list_any-append}
 use Rattle.std.proofs.lemmas.List.Sums.{sum_by-append, sum_by-cons}
 use Rattle.trace_base.specs.declared.names.TraceInfo.{TraceInfo}
-use Rattle.node_key.proofs.HistoryMore.{SameData, any_more, data_of_others, fate_of_others, fate_published}
-use Rattle.node_key.proofs.HistoryMore.{loading_same, open_same, opened_more, or_false, subject, tracks_same}
+use Rattle.node_key.proofs.HistoryMore.{any_more, data_of_others, fate_of_others, fate_published}
+use Rattle.node_key.proofs.HistoryMore.{loading_same, open_same, opened_more, or_false, subject}
 use Rattle.node_key.proofs.Ranges.{AgreeBut, Around, Lacks, Lacks-filter, filter_same, filters_around}
 use Rattle.node_key.proofs.Ranges.{range_below, sum_same}
-use Rattle.node_key.specs.History.{EntryOf, Opened, Published, Sealed, ends, info_of, is_loading, is_open}
-use Rattle.node_key.specs.History.{opened_ids, promised, published_count, published_of, seals, tracks_of}
-use Rattle.registry_core.specs.Standing.{IsPublishedBy, IsUntold, KeepsTrace, KeepsTrack, RootsAre, Start}
+use Rattle.node_key.specs.History.{EntryOf, Opened, Published, Sealed, ends, is_loading, is_open, opened_ids}
+use Rattle.node_key.specs.History.{promised, seals}
+use Rattle.registry_core.specs.Standing.{IsUntold, KeepsTrace, RootsAre, Start}
 use Rattle.registry_core.specs.Trace.{Trace}
-use Rattle.registry_core.specs.declared.track_root.TrackRoot.{TrackRoot}
+use Rattle.registry_core.proofs.KeepsMore.{IsUntold-more, KeepsTrace-more, promise_same, promise_told}
+use Rattle.registry_core.proofs.KeepsMore.{promised_to}
 
 -- ---- ids that count up
-
--- one number more
-pub range_more : (a n : ℕ) → range_with_len a n ++ (a + n) ∷ [] ≡ range_with_len a (n + 1)
-range_more a zero = let e : a + 0 ≡ a = omega arith in ap (λ x. x ∷ []) e
-range_more a (suc n) =
-    let e : a + suc n ≡ a + 1 + n = omega arith in
-    let f : suc (n + 1) ≡ suc n + 1 = omega arith in
-    ap (λ x. a ∷ range_with_len (a + 1) n ++ x ∷ []) e ∙ ap (λ xs. a ∷ xs) (range_more (a + 1) n) ∙ ap
-    (range_with_len a) f
 
 -- a number of the range lies in it
 pub in_range : (a n x : ℕ) → list_any (λ other. eqb other x) (range_with_len a n) ≡ true → (a ≤ x)
@@ -63,19 +54,6 @@ loading_open entries id loading = (and_parts _ _ loading).0
 
 -- ---- the promised places
 
--- the places that are promised to a loading trace
-abbrev pub promise_told : {X : Type 0} → List (EntryOf X) → ℕ → ℕ
-promise_told entries id = tracks_of entries id - published_count entries id + 1
-
--- the places that are promised to a trace
-abbrev pub promised_to : {X : Type 0} → List (EntryOf X) → ℕ → ℕ
-promised_to entries id = cond (is_loading entries id) (promise_told entries id) 0
-
--- the same data, the same promise
-promise_same : {X : Type 0} (old new : List (EntryOf X)) (id : ℕ) → SameData old new id
-    → promise_told new id ≡ promise_told old id
-promise_same old new id same = rw (same.count, tracks_same old new id same) refl
-
 -- an entry leaves the others loading
 loads_agree : {X : Type 0} (entries : List (EntryOf X)) (e : EntryOf X)
     → AgreeBut (subject e) (is_loading entries) (is_loading (entries ++ e ∷ []))
@@ -88,7 +66,7 @@ promises_agree : {X : Type 0} (entries : List (EntryOf X)) (e : EntryOf X)
 promises_agree entries e x ne = promise_same entries _ x (data_of_others entries e x ne)
 
 -- a sum over three parts, with at most one number in the middle
-sum_around : (f : ℕ → ℕ) (front back : List ℕ) (b : Bool) (id : ℕ)
+pub sum_around : (f : ℕ → ℕ) (front back : List ℕ) (b : Bool) (id : ℕ)
     → sum_by f (front ++ cond b (id ∷ []) [] ++ back) ≡ sum_by f front + cond b (f id) 0 + sum_by f back
 sum_around f front back b id =
     let mid : sum_by f (cond b (id ∷ []) []) ≡ cond b (f id) 0 = elim b as
@@ -215,61 +193,17 @@ sealed_loaded entries id =
 
 -- ---- what is told of a trace
 
--- the number of the tracks of a trace with this info
-pub tracks_told : {X : Type 0} (entries : List (EntryOf X)) (id : ℕ) (info : TraceInfo)
-    → info_of entries id ≡ Some info → tracks_of entries id ≡ length info.names.tracks
-tracks_told entries id info told = ap (λ o. option_map_or (λ (i : TraceInfo). length i.names.tracks) o 0) told
-
 -- a trace of which nothing was told stays so, but for an entry of its own
 pub untold_stays : {X : Type 0} (entries : List (EntryOf X)) (e : EntryOf X) (id : ℕ)
     → eqb (subject e) id ≡ false → IsUntold entries id → IsUntold (entries ++ e ∷ []) id
 untold_stays entries e id ne was =
-    let same = data_of_others entries e id ne in
-    let fate = fate_of_others entries e id ne in
-    record {
-      info = same.info ∙ was.info;
-      count = same.count ∙ was.count;
-      published = λ track. same.published track ∙ was.published track;
-      sealed = fate.sealed ∙ was.sealed;
-      ended = fate.ended ∙ was.ended;
-    }
-
--- what was published by an entry was so in a history that goes on
-pub published_by_stays : {X : Type 0} (entries : List (EntryOf X)) (e : EntryOf X) (id track n : ℕ) (what : X)
-    → IsPublishedBy entries id track n what → IsPublishedBy (entries ++ e ∷ []) id track n what
-published_by_stays entries e id track n what was = record {
-  least = was.least;
-  most = omega (arith, was.most, length-append entries (e ∷ []));
-  before = ap (λ es. published_of es id track)
-      (take-append-le (n - 1) entries (e ∷ []) (omega (arith, was.most))) ∙ was.before;
-  from = ap (λ es. published_of es id track) (take-append-le n entries (e ∷ []) was.most) ∙ was.from;
-}
-
--- the slot of a track keeps what is told of it
-pub keeps_track_stays : {X : Type 0} (are : RootsAre X) (start : Start) (entries : List (EntryOf X))
-    (e : EntryOf X) (id track : ℕ) (slot : Option TrackRoot)
-    → published_of (entries ++ e ∷ []) id track ≡ published_of entries id track
-    → KeepsTrack are start entries id track slot → KeepsTrack are start (entries ++ e ∷ []) id track slot
-keeps_track_stays are start entries e id track None same keeps = same ∙ keeps
-keeps_track_stays are start entries e id track (Some r) same (what, is, low, by) =
-    (what, is, low, published_by_stays entries e id track (r.place - start.place) what by)
-
--- a trace keeps what is told of it, with what is told of its load
-pub keeps_trace_stays : {X : Type 0} (are : RootsAre X) (start : Start) (entries : List (EntryOf X))
-    (e : EntryOf X) (t : Trace) (loading : Bool) → SameData entries (entries ++ e ∷ []) t.id
-    → loading ≡ is_loading (entries ++ e ∷ []) t.id → KeepsTrace are start entries t
-    → KeepsTrace are start (entries ++ e ∷ []) (record t { loading = loading })
-keeps_trace_stays are start entries e t loading same load keeps = record {
-  info = same.info ∙ keeps.info;
-  loading = load;
-  count = keeps.count ∙ sym same.count;
-  tracks = λ track slot at. keeps_track_stays are start entries e t.id track slot (same.published track)
-      (keeps.tracks track slot at);
-}
+    IsUntold-more entries e id (data_of_others entries e id ne) (fate_of_others entries e id ne) was
 
 -- an entry that isn't about the trace leaves it
 pub keeps_trace_of_others : {X : Type 0} (are : RootsAre X) (start : Start) (entries : List (EntryOf X))
     (e : EntryOf X) (t : Trace) → eqb (subject e) t.id ≡ false → KeepsTrace are start entries t
     → KeepsTrace are start (entries ++ e ∷ []) t
-keeps_trace_of_others are start entries e t ne keeps = keeps_trace_stays are start entries e t t.loading
-    (data_of_others entries e t.id ne) (keeps.loading ∙ sym (loading_of_others entries e t.id ne)) keeps
+keeps_trace_of_others are start entries e t ne keeps =
+    KeepsTrace-more are start entries e t t (data_of_others entries e t.id ne)
+    (record { id = refl; info = refl; tracks = refl })
+    (keeps.loading ∙ sym (loading_of_others entries e t.id ne)) keeps

@@ -2,7 +2,9 @@ pub mod ById
 pub mod EndTraces
 pub mod EndedMore
 pub mod FilteredLists
+pub mod FoundItems
 pub mod KeepsMore
+pub mod KeptTraces
 pub mod LawEntries
 pub mod LawTraces
 pub mod OneTrace

@@ -1,30 +1,26 @@
 -- Traces whose ids rise: at most one has an id, so what is changed or taken out there changes nothing else.
-use Rattle.std.proofs.Common.{◌≡◌, ℕ, ◌+◌, ◌<◌, ◌&&◌, inl, inr, Bool, true, false, not, cond, List}
-use Rattle.std.proofs.Common.{[], ◌∷◌, ◌++◌, All, Option, None, Some, map, sum_by, refl, sym, ap, ap₂}
+use Rattle.std.proofs.Common.{◌≡◌, ℕ, ◌+◌, ◌<◌, inl, inr, Bool, true, false, not, cond, List}
+use Rattle.std.proofs.Common.{[], ◌∷◌, ◌++◌, All, Option, None, Some, sum_by, refl, sym, ap, ap₂}
 use Rattle.std.proofs.Common.{◌∙◌, subst, arith}
 use Rattle.std.specs.Prelude.{is_some}
 use Rattle.std.specs.List.{AllByRecursion}
 use Rattle.std.specs.List.Sorted.{IsStrictlySortedBy}
 use Rattle.std.specs.Ordering.{nat_cmp}
 use Rattle.std.specs.declared.cmp.Ordering.TheVariants.{Less}
+use Rattle.std.proofs.lemmas.Bool.{eqb-true}
 use Rattle.std.proofs.lemmas.Bool.Decides.{eqb_tells, nat_tests}
 use Rattle.std.proofs.lemmas.List.{map-append}
-use Rattle.std.proofs.lemmas.List.Elements.{All-append, All-cons, All-head, All-nil, All-tail}
-use Rattle.std.proofs.lemmas.List.Elements.{filter-append}
+use Rattle.std.proofs.lemmas.List.Elements.{All-head, All-tail, filter-append}
 use Rattle.std.proofs.lemmas.List.Sums.{sum_by-append, sum_by-cons}
-use Rattle.std.proofs.lemmas.Map.Keys.{sorted_head, sorted_tail}
+use Rattle.std.proofs.lemmas.Map.Entries.{option_filter}
+use Rattle.std.proofs.lemmas.Map.Keys.{sorted_tail}
+use Rattle.std.proofs.lemmas.Option.{same_Some}
 use Rattle.registry_core.specs.Registry.{has_id, is_open_trace, kept_trace, open_count, open_trace}
 use Rattle.registry_core.specs.Registry.{with_changed, without_trace}
 use Rattle.registry_core.specs.Trace.{Trace}
-use Rattle.registry_core.proofs.EndTraces.{IsRising, IsRising-map, find_stricter}
-
--- the ids of traces
-abbrev pub ids_of : List Trace → List ℕ
-ids_of traces = map (λ (t : Trace). t.id) traces
-
--- no trace of the list has the id
-abbrev pub Lacks : ℕ → List Trace → Type 0
-Lacks id traces = AllByRecursion (λ t. has_id id t ≡ false) traces
+use Rattle.registry_core.proofs.FoundItems.{find_stricter}
+use Rattle.registry_core.proofs.KeptTraces.{All-with_changed, IsRising, IsRising-map, find-has_id, ids_of}
+use Rattle.registry_core.proofs.KeptTraces.{kept_each, none_behind, with_changed-none, without_trace-none}
 
 -- the list around its one trace of the id
 pub record AroundTrace (traces : List Trace) (id : ℕ) (t : Trace) : Type 0 where
@@ -32,15 +28,8 @@ pub record AroundTrace (traces : List Trace) (id : ℕ) (t : Trace) : Type 0 whe
   pub after : List Trace
   pub is : traces ≡ before ++ t ∷ after
   pub here : has_id id t ≡ true
-  pub lacks_before : Lacks id before
-  pub lacks_after : Lacks id after
-
--- ids above an id differ from it
-lacks_above : (id : ℕ) (traces : List Trace) → AllByRecursion (λ x. nat_cmp id x ≡ Less) (ids_of traces)
-    → Lacks id traces
-lacks_above id [] above = tt
-lacks_above id (t ∷ ts) above =
-    (let lt : nat_cmp id t.id ≡ Less = above.0 in grind (arith, nat_tests), lacks_above id ts above.1)
+  pub none_before : kept_trace before id ≡ None
+  pub none_after : kept_trace after id ≡ None
 
 -- a trace that is kept has the id, and no other trace of the list has it
 pub around-kept : (traces : List Trace) (id : ℕ) (t : Trace) → IsRising traces → kept_trace traces id ≡ Some t
@@ -56,10 +45,8 @@ around-kept (u ∷ us) id t up kept =
             after = us;
             is = ap (λ v. v ∷ us) is;
             here = subst (λ (v : Trace). has_id id v ≡ true) is same.0;
-            lacks_before = tt;
-            lacks_after = lacks_above id us
-                (subst (λ x. AllByRecursion (λ y. nat_cmp x y ≡ Less) (ids_of us)) same.1
-                (sorted_head nat_cmp u.id (ids_of us) up));
+            none_before = refl;
+            none_after = none_behind id u us up same.0;
           }
       | inr other ↦
           let later : kept_trace us id ≡ Some t = sym (ap (λ b. cond b (Some u) (kept_trace us id)) other.0)
@@ -70,41 +57,28 @@ around-kept (u ∷ us) id t up kept =
             after = rest.after;
             is = ap (λ vs. u ∷ vs) rest.is;
             here = rest.here;
-            lacks_before = (other.0, rest.lacks_before);
-            lacks_after = rest.lacks_after;
+            none_before = ap (λ b. cond b (Some u) (kept_trace rest.before id)) other.0 ∙ rest.none_before;
+            none_after = rest.none_after;
           }
     ]
 
 -- ---- the list with the trace changed, or without it
-
--- traces without the id stay as they are
-changed-lacking : (id : ℕ) (f : Trace → Trace) (traces : List Trace) → Lacks id traces
-    → with_changed id f traces ≡ traces
-changed-lacking id f [] lacks = refl
-changed-lacking id f (t ∷ ts) lacks = ap₂ (λ b us. cond b (f t) t ∷ us) lacks.0
-    (changed-lacking id f ts lacks.1)
-
--- none of them is taken out
-without-lacking : (id : ℕ) (traces : List Trace) → Lacks id traces → without_trace id traces ≡ traces
-without-lacking id [] lacks = refl
-without-lacking id (t ∷ ts) lacks = ap₂ (λ b us. cond (not b) (t ∷ us) us) lacks.0
-    (without-lacking id ts lacks.1)
 
 -- the change is made at the trace alone
 pub changed-around : (traces : List Trace) (id : ℕ) (t : Trace) (f : Trace → Trace)
     → (a : AroundTrace traces id t) → with_changed id f traces ≡ a.before ++ f t ∷ a.after
 changed-around traces id t f a = ap (with_changed id f) a.is
     ∙ map-append (λ u. cond (has_id id u) (f u) u) a.before (t ∷ a.after)
-    ∙ ap₂ ◌++◌ (changed-lacking id f a.before a.lacks_before)
-    (ap₂ (λ b us. cond b (f t) t ∷ us) a.here (changed-lacking id f a.after a.lacks_after))
+    ∙ ap₂ ◌++◌ (with_changed-none id f a.before a.none_before)
+    (ap₂ (λ b us. cond b (f t) t ∷ us) a.here (with_changed-none id f a.after a.none_after))
 
 -- the trace alone is taken out
 pub without-around : (traces : List Trace) (id : ℕ) (t : Trace) (a : AroundTrace traces id t)
     → without_trace id traces ≡ a.before ++ a.after
 without-around traces id t a = ap (without_trace id) a.is
     ∙ filter-append (λ u. not (has_id id u)) a.before (t ∷ a.after)
-    ∙ ap₂ ◌++◌ (without-lacking id a.before a.lacks_before)
-    (ap₂ (λ b us. cond (not b) (t ∷ us) us) a.here (without-lacking id a.after a.lacks_after))
+    ∙ ap₂ ◌++◌ (without_trace-none id a.before a.none_before)
+    (ap₂ (λ b us. cond (not b) (t ∷ us) us) a.here (without_trace-none id a.after a.none_after))
 
 -- a sum over the list, around the trace
 sum-around : (g : Trace → ℕ) (before after : List Trace) (t : Trace)
@@ -134,24 +108,15 @@ sum-without g traces id t up kept =
     ap (sum_by g) (without-around traces id t a) ∙ sum_by-append g a.before a.after in
     omega (arith, old, new)
 
--- what holds of each element of two lists joined holds of each of both
-all-parts : (P : Trace → Type 0) (front back : List Trace) → All P (front ++ back)
-    → All P front × All P back
-all-parts P [] back all = (All-nil P, all)
-all-parts P (t ∷ ts) back all =
-    let rest = all-parts P ts back (All-tail P t (ts ++ back) all) in
-    (All-cons P t ts (All-head P t (ts ++ back) all) rest.0, rest.1)
-
 -- what holds of each trace, and of the one that is changed
 pub all-changed : (P : Trace → Type 0) (f : Trace → Trace) (traces : List Trace) (id : ℕ) (t : Trace)
     → IsRising traces → kept_trace traces id ≡ Some t → All P traces → P (f t)
     → All P (with_changed id f traces)
 all-changed P f traces id t up kept all new =
-    let a = around-kept traces id t up kept in
-    let parts = all-parts P a.before (t ∷ a.after) (subst (All P) a.is all) in
-    subst (All P) (sym (changed-around traces id t f a))
-    (All-append P a.before (f t ∷ a.after) parts.0
-    (All-cons P (f t) a.after new (All-tail P t a.after parts.1)))
+    All-with_changed (λ u. P u × (kept_trace traces u.id ≡ Some u)) P id f
+    (λ u was hit. subst (λ (v : Trace). P (f v)) (same_Some t u
+    (sym kept ∙ ap (kept_trace traces) (sym (eqb-true u.id id hit)) ∙ was.1)) new)
+    (λ u was miss. was.0) traces (λ k d lt. (all k d lt, kept_each traces up k d lt))
 
 -- ids rise where a change keeps them
 pub rises-changed : (f : Trace → Trace) → ((t : Trace) → (f t).id ≡ t.id) → (id : ℕ) (traces : List Trace)
@@ -192,27 +157,11 @@ count-changed f same id (t ∷ ts) =
 
 -- ---- the trace of an id that is open
 
--- no trace of the id is open among traces that lack it
-open-lacking : (id : ℕ) (traces : List Trace) → Lacks id traces → open_trace traces id ≡ None
-open-lacking id [] lacks = refl
-open-lacking id (t ∷ ts) lacks = ap (λ b. cond (b && is_open_trace t) (Some t) (open_trace ts id)) lacks.0
-    ∙ open-lacking id ts lacks.1
-
--- traces that lack the id are passed over
-open-behind : (id : ℕ) (before after : List Trace) → Lacks id before
-    → open_trace (before ++ after) id ≡ open_trace after id
-open-behind id [] after lacks = refl
-open-behind id (t ∷ ts) after lacks = ap (λ b. cond (b && is_open_trace t) (Some t)
-    (open_trace (ts ++ after) id)) lacks.0 ∙ open-behind id ts after lacks.1
-
 -- the trace that is kept is the open one, unless it has ended
 pub open-kept : (traces : List Trace) (id : ℕ) (t : Trace) → IsRising traces → kept_trace traces id ≡ Some t
     → open_trace traces id ≡ cond (is_open_trace t) (Some t) None
-open-kept traces id t up kept =
-    let a = around-kept traces id t up kept in
-    ap (λ ts. open_trace ts id) a.is ∙ open-behind id a.before (t ∷ a.after) a.lacks_before
-    ∙ ap (λ b. cond (b && is_open_trace t) (Some t) (open_trace a.after id)) a.here
-    ∙ ap (λ o. cond (is_open_trace t) (Some t) o) (open-lacking id a.after a.lacks_after)
+open-kept traces id t up kept = find-has_id is_open_trace id traces up
+    ∙ ap (option_filter is_open_trace) kept
 
 -- where a trace of the id is open, the one that is kept is
 pub open-is-kept : (traces : List Trace) (id : ℕ) (t : Trace) → IsRising traces

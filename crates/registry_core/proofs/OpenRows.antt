@@ -1,39 +1,35 @@
 -- The open traces of a registry and the open ids of its history are one list, and so are their rows.
-use Rattle.std.proofs.Common.{◌≡◌, ℕ, ◌+◌, ◌<◌, Bool, true, false, ◌&&◌, ◌||◌, inl, inr, not, cond, eqb, List}
+use Rattle.std.proofs.Common.{◌≡◌, ℕ, ◌+◌, ◌<◌, Bool, true, false, ◌&&◌, inl, inr, not, cond, eqb, List}
 use Rattle.std.proofs.Common.{[], ◌∷◌, suc, zero, length, map, filter, All, Contains, Some, refl, sym, ap}
 use Rattle.std.proofs.Common.{ap₂, ◌∙◌, subst, arith, get_or}
 use Rattle.std.specs.Prelude.{is_some}
 use Rattle.std.specs.Cmp.{nat_cmp_is}
-use Rattle.std.specs.List.{AllByRecursion, list_any, range_with_len}
+use Rattle.std.specs.List.{AllByRecursion, range_with_len}
 use Rattle.std.specs.List.Sorted.{IsStrictlySortedBy}
-use Rattle.std.specs.Option.{option_map_or}
 use Rattle.std.specs.Ordering.{nat_cmp}
 use Rattle.std.specs.declared.cmp.Ordering.TheVariants.{Less}
 use Rattle.std.proofs.lemmas.Bool.{and_parts, eq-eqb, eqb-true, true≢false}
-use Rattle.std.proofs.lemmas.Bool.Decides.{eqb_tells, nat_tests}
 use Rattle.std.proofs.lemmas.Cmp.{nat_cmp_total}
-use Rattle.std.proofs.lemmas.List.{get_or-map, length-map}
-use Rattle.std.proofs.lemmas.List.Elements.{All-cons, All-contains, All-filter, All-from_recursion, All-head}
-use Rattle.std.proofs.lemmas.List.Elements.{All-tail, filter_passes}
+use Rattle.std.proofs.lemmas.List.{length-map}
+use Rattle.std.proofs.lemmas.List.Elements.{All-contains, All-filter, All-head, All-tail, filter_passes}
 use Rattle.std.proofs.lemmas.List.Sums.{length-filter}
 use Rattle.std.proofs.lemmas.List.Kept.{IsStrictlySortedBy-filter}
-use Rattle.trace_base.specs.declared.names.TraceInfo.{TraceInfo}
+use Rattle.std.proofs.lemmas.Map.Views.{Contains-from_any}
 use Rattle.trace_base.proofs.InOrder.{has_cons, has_here, has_there, rising-unique}
 use Rattle.node_key.specs.History.{EntryOf, is_open, open_ids, opened_ids, tracks_of}
 use Rattle.registry_core.specs.Closing.{rows_of}
-use Rattle.registry_core.specs.Registry.{RegistryValue, is_open_trace, kept_trace, open_count, open_trace}
+use Rattle.registry_core.specs.Registry.{RegistryValue, is_open_trace, open_count, open_trace}
 use Rattle.registry_core.specs.Standing.{KeepsTrace, RootsAre, StandsFor, Start, row_told}
 use Rattle.registry_core.specs.Trace.{IsSoundTrace, Trace, row_of}
+use Rattle.registry_core.proofs.FilteredLists.{rising-filter}
+use Rattle.registry_core.proofs.KeepsMore.{tracks_told}
+use Rattle.registry_core.proofs.KeptTraces.{ids_of, kept_each}
 
 -- ---- rising lists
 
 -- a lesser number comes before
 less_of : (x y : ℕ) → x < y → nat_cmp x y ≡ Less
 less_of x y lt = sym (nat_cmp_is x y Less lt)
-
--- a number that comes before another isn't it
-less_differ : (x y : ℕ) → nat_cmp x y ≡ Less → eqb x y ≡ false
-less_differ x y less = grind (arith, nat_tests)
 
 -- a range from a greater number on lies behind
 range_above : (a b n : ℕ) → a < b → AllByRecursion (λ y. nat_cmp a y ≡ Less) (range_with_len b n)
@@ -45,27 +41,6 @@ range_rises : (a n : ℕ) → IsStrictlySortedBy nat_cmp (range_with_len a n)
 unfolding IsStrictlySortedBy
 range_rises a zero = tt
 range_rises a (suc n) = (range_above a (a + 1) n (omega arith), range_rises (a + 1) n)
-
--- what holds of all keys holds of the keys of the items that pass a test
-filtered_above : {X K : Type 0} (P : K → Type 0) (key : X → K) (p : X → Bool) (xs : List X)
-    → AllByRecursion P (map key xs) → AllByRecursion P (map key (filter p xs))
-filtered_above P key p [] all = tt
-filtered_above P key p (x ∷ xs) all = elim (p x) as (λ b. AllByRecursion P
-    (map key (cond b (x ∷ filter p xs) (filter p xs)))) [
-      | true ↦ (all.0, filtered_above P key p xs all.1)
-      | false ↦ filtered_above P key p xs all.1
-    ]
-
--- the keys of the items that pass a test rise, where those of all items do
-filtered_rises : {X : Type 0} (key : X → ℕ) (p : X → Bool) (xs : List X)
-    → IsStrictlySortedBy nat_cmp (map key xs) → IsStrictlySortedBy nat_cmp (map key (filter p xs))
-unfolding IsStrictlySortedBy
-filtered_rises key p [] up = tt
-filtered_rises key p (x ∷ xs) up = elim (p x) as (λ b. IsStrictlySortedBy nat_cmp
-    (map key (cond b (x ∷ filter p xs) (filter p xs)))) [
-      | true ↦ (filtered_above (λ y. nat_cmp (key x) y ≡ Less) key p xs up.0, filtered_rises key p xs up.1)
-      | false ↦ filtered_rises key p xs up.1
-    ]
 
 -- ---- what a filtered list has
 
@@ -84,15 +59,6 @@ filter_has {X} p (y ∷ ys) x has passes =
       ]
     ]
 
--- an id that a list is said to have stands in it
-any_has : (xs : List ℕ) (id : ℕ) → list_any (λ other. eqb other id) xs ≡ true → Contains xs id
-any_has [] id any = absurd cc
-any_has (x ∷ xs) id any = elim (eqb_tells x id) [
-  | inl same ↦ subst (λ (y : ℕ). Contains (x ∷ xs) y) same.1 (has_here x xs)
-  | inr other ↦ has_there x id xs
-      (any_has xs id (sym (ap (λ b. b || list_any (λ other. eqb other id) xs) other.0) ∙ any))
-]
-
 -- ---- the open ids
 
 -- an id that is open is among the open ids
@@ -100,7 +66,8 @@ open_id_has : {X : Type 0} (entries : List (EntryOf X)) (id : ℕ) → is_open e
     → Contains (open_ids entries) id
 unfolding open_ids is_open
 open_id_has entries id on = filter_has (is_open entries) (opened_ids entries) id
-    (any_has (opened_ids entries) id (and_parts _ _ on).0) on
+    (Contains-from_any {eq = λ x y. eqb y x} (λ x y is. sym (eqb-true y x is)) id (opened_ids entries)
+    (and_parts _ _ on).0) on
 
 -- an id among the open ids is open
 open_id_is : {X : Type 0} (entries : List (EntryOf X)) (id : ℕ) → Contains (open_ids entries) id
@@ -118,10 +85,6 @@ open_ids_rise start entries ids = IsStrictlySortedBy-filter nat_cmp (is_open ent
     (subst (IsStrictlySortedBy nat_cmp) (sym ids) (range_rises start (length (opened_ids entries))))
 
 -- ---- the ids of the open traces
-
--- their ids
-abbrev pub ids_of : List Trace → List ℕ
-ids_of traces = map (λ (t : Trace). t.id) traces
 
 -- an id that finds an open trace is among the ids of the open traces
 open_trace_has : (traces : List Trace) (id : ℕ) → is_some (open_trace traces id) ≡ true
@@ -162,26 +125,6 @@ open_trace_is (t ∷ traces) id has = by (eqb t.id id) (not t.closing) refl has 
     ]
     by false false same has later = later has
 
--- ---- each kept trace is found by its id
-
--- each trace is found by its id, where ids rise
-kept_each : (traces : List Trace) → IsStrictlySortedBy nat_cmp (ids_of traces)
-    → All (λ t. kept_trace traces t.id ≡ Some t) traces
-unfolding IsStrictlySortedBy
-kept_each [] up = λ k d lt. absurd (omega (arith, lt))
-kept_each (t ∷ traces) up = All-cons (λ x. kept_trace (t ∷ traces) x.id ≡ Some x) t traces
-    (ap (λ b. cond b (Some t) (kept_trace traces t.id)) (eq-eqb t.id t.id refl))
-    (λ k d lt.
-    let x = get_or traces k d in
-    let above : nat_cmp t.id x.id ≡ Less = All-contains (λ y. nat_cmp t.id y ≡ Less) (ids_of traces) x.id
-    (All-from_recursion (λ y. nat_cmp t.id y ≡ Less) (ids_of traces) up.0) (
-      k,
-      omega (arith, lt, length-map traces (λ (x : Trace). x.id)),
-      get_or-map (λ (x : Trace). x.id) traces k d x.id lt,
-    ) in
-    ap (λ b. cond b (Some t) (kept_trace traces x.id)) (less_differ t.id x.id above)
-    ∙ kept_each traces up.1 k d lt)
-
 -- what f makes of each item, g makes of its key
 map_told : {X K Y : Type 0} (key : X → K) (f : X → Y) (g : K → Y) (xs : List X)
     → All (λ x. f x ≡ g (key x)) xs → map f xs ≡ map g (map key xs)
@@ -196,7 +139,7 @@ pub open_ids_are : {X : Type 0} (are : RootsAre X) (start : Start) (r : Registry
     (entries : List (EntryOf X)) → StandsFor are start r entries
     → ids_of (filter is_open_trace r.traces) ≡ open_ids entries
 open_ids_are are start r entries stands = rising-unique nat_cmp nat_cmp_total _ _
-    (filtered_rises (λ (t : Trace). t.id) is_open_trace r.traces stands.sound.rising)
+    (rising-filter (λ (t : Trace). t.id) is_open_trace r.traces stands.sound.rising)
     (open_ids_rise start.id entries stands.ids)
     (λ id has. open_id_has entries id (stands.opens id ∙ open_trace_is r.traces id has))
     (λ id has. open_trace_has r.traces id (sym (stands.opens id) ∙ open_id_is entries id has))
@@ -215,7 +158,7 @@ row_is : {X : Type 0} (are : RootsAre X) (start : Start) (place : ℕ) (entries 
     → KeepsTrace are start entries t → IsSoundTrace place t → row_of t ≡ row_told entries t.id
 row_is are start place entries t keeps sound =
     let tracks : length t.tracks ≡ tracks_of entries t.id = sound.tracks
-    ∙ sym (ap (λ o. option_map_or (λ (info : TraceInfo). length info.names.tracks) o 0) keeps.info) in
+    ∙ sym (tracks_told entries t.id t.info keeps.info) in
     λ i. record { id = t.id; tracks = tracks i; published = keeps.count i; loading = keeps.loading i }
 
 -- the rows of the registry are those that its history tells

@@ -13,7 +13,7 @@ use Rattle.registry_core.specs.Loading.{AdmitsIn, AwaitsSeal, after_promised, wi
 use Rattle.registry_core.specs.Registry.{RegistryValue, has_id, kept_trace, new_registry}
 use Rattle.registry_core.specs.Trace.{Trace, just_opened}
 use Rattle.registry_core.specs.declared.answers.Opened.{Opened}
-use Rattle.registry_core.proofs.ById.{All-with_changed}
+use Rattle.registry_core.proofs.KeptTraces.{All-with_changed}
 use Rattle.registry_core.proofs.LawTraces.{KeepsId, kept_above, kept_more}
 
 -- ---- one or two ids

@@ -13,7 +13,8 @@ use Rattle.registry_core.specs.Asking.{without_users}
 use Rattle.registry_core.specs.Registry.{FitsPlaces, IsSoundRegistry, RegistryValue, after_entry, has_id}
 use Rattle.registry_core.specs.Registry.{is_open_trace, kept_trace, open_count}
 use Rattle.registry_core.specs.Trace.{IsSoundTrace, Trace, is_over, promise_of, used_less, used_more}
-use Rattle.registry_core.proofs.FilteredLists.{All-found, rising-filter, sum_by-filter_zero}
+use Rattle.registry_core.proofs.FilteredLists.{rising-filter, sum_by-filter_zero}
+use Rattle.registry_core.proofs.FoundItems.{All-found}
 use Rattle.registry_core.proofs.Users.{ids-users, open_count-users, over_closing, over_unpromised}
 use Rattle.registry_core.proofs.Users.{promises-users, times_asked-le}
 

@@ -16,8 +16,9 @@ use Rattle.registry_core.specs.Registry.{FitsPlaces, IsSoundRegistry, RegistryVa
 use Rattle.registry_core.specs.Registry.{is_open_trace, kept_trace, open_count, with_changed, without_trace}
 use Rattle.registry_core.specs.Trace.{IsSoundTrace, Trace, just_opened, kept_for_users, loaded, promise_of}
 use Rattle.registry_core.specs.Trace.{published_tracks, with_root}
-use Rattle.registry_core.proofs.EndTraces.{kept_id, kept_own}
-use Rattle.registry_core.proofs.FilteredLists.{All-found, rising-filter}
+use Rattle.registry_core.proofs.FilteredLists.{rising-filter}
+use Rattle.registry_core.proofs.FoundItems.{All-found}
+use Rattle.registry_core.proofs.KeptTraces.{kept_id, kept_own}
 use Rattle.registry_core.proofs.LawTraces.{count_empty, count_filled}
 use Rattle.registry_core.proofs.OneTrace.{all-changed, count-changed, rises-changed, rises-push, sum-changed}
 use Rattle.registry_core.proofs.OneTrace.{sum-without}
@@ -63,7 +64,7 @@ opened-trace place id info legal = record {
 }
 
 -- a trace that is loading, with one track more, is promised one place less
-promise-published : (track : ℕ) (root : TrackRoot) (t : Trace) → t.loading ≡ true
+pub promise-published : (track : ℕ) (root : TrackRoot) (t : Trace) → t.loading ≡ true
     → slice_get t.tracks track ≡ Some None → 1 + promise_of (with_root track root t) ≡ promise_of t
 promise-published track root t loading awaits =
     let more = (count_filled t.tracks track root awaits).0 in
@@ -76,7 +77,7 @@ promise-published track root t loading awaits =
     ≡ cond b (length t.tracks - published_tracks t + 1) 0) (sym loading) places
 
 -- a trace whose tracks are all published is promised the place of its end
-promise-sealed : (t : Trace) → t.loading ≡ true → published_tracks t ≡ length t.tracks
+pub promise-sealed : (t : Trace) → t.loading ≡ true → published_tracks t ≡ length t.tracks
     → 1 + promise_of (loaded t) ≡ promise_of t
 promise-sealed t loading all =
     let places : 1 ≡ length t.tracks - published_tracks t + 1 = omega (arith, all) in

@@ -1,14 +1,12 @@
 -- A registry that stands for a history does so after a question as well.
-use Rattle.std.proofs.Common.{◌≡◌, ℕ, ◌+◌, ◌-◌, List, [], ◌∷◌, ◌++◌, filter, sum_by, refl, sym, ap₂, ◌∙◌}
+use Rattle.std.proofs.Common.{◌≡◌, ℕ, List, [], ◌∷◌, ◌++◌, filter, sum_by, refl, sym, ap₂, ◌∙◌}
 use Rattle.std.proofs.Common.{arith, length-append, append-nil}
 use Rattle.std.proofs.Math.Path.{fun_ext}
-use Rattle.node_key.specs.History.{Asked, EntryOf, is_loading, is_open, opened_ids, promised, published_count}
-use Rattle.node_key.specs.History.{tracks_of}
+use Rattle.node_key.specs.History.{Asked, EntryOf, is_loading, is_open, opened_ids, promised}
 use Rattle.node_key.proofs.HistoryMore.{data_asked, fate_asked, loading_same, open_same, opened_more}
-use Rattle.node_key.proofs.HistoryMore.{tracks_same}
 use Rattle.registry_core.specs.Registry.{IsSoundRegistry, RegistryValue, after_entry}
 use Rattle.registry_core.specs.Standing.{RootsAre, StandsFor, Start}
-use Rattle.registry_core.proofs.KeepsMore.{IsUntold-more, KeepsTrace-more}
+use Rattle.registry_core.proofs.KeepsMore.{IsUntold-more, KeepsTrace-more, promise_same, promise_told}
 
 -- a question opens no trace
 asked_ids : {X : Type 0} (entries : List (EntryOf X))
@@ -32,11 +30,9 @@ unfolding promised
 asked_promised entries =
     let new = entries ++ Asked ∷ [] in
     let loads : is_loading new ≡ is_loading entries = fun_ext (λ x. asked_loading entries x) in
-    let promise : (id : ℕ) → tracks_of new id - published_count new id + 1
-    ≡ tracks_of entries id - published_count entries id + 1 =
-    λ id. let same = data_asked entries id in
-    ap₂ (λ m n. m - n + 1) (tracks_same entries new id same) same.count in
-    ap₂ sum_by (fun_ext promise) (ap₂ filter loads (asked_ids entries))
+    let promise : promise_told new ≡ promise_told entries =
+    fun_ext (λ id. promise_same entries new id (data_asked entries id)) in
+    ap₂ sum_by promise (ap₂ filter loads (asked_ids entries))
 
 -- after a question the registry stands for the history with it
 pub stands-asked : {X : Type 0} (are : RootsAre X) (start : Start) (r : RegistryValue)

@@ -3,16 +3,19 @@ use Rattle.std.proofs.Common.{◌≡◌, ℕ, ◌+◌, ◌-◌, ◌<◌, false, 
 use Rattle.std.proofs.Common.{ap, ap₂, ◌∙◌, subst, arith, length-append}
 use Rattle.std.proofs.lemmas.Bool.Decides.{nat_tests}
 use Rattle.node_key.specs.History.{EntryOf, is_loading}
-use Rattle.node_key.proofs.HistoryMore.{data_of_others, fate_of_others, subject}
+use Rattle.node_key.proofs.HistoryMore.{subject}
 use Rattle.registry_core.specs.Loading.{with_ended, with_kept}
 use Rattle.registry_core.specs.Registry.{IsSoundRegistry, RegistryValue, has_id, kept_trace, with_changed}
 use Rattle.registry_core.specs.Registry.{without_trace}
 use Rattle.registry_core.specs.Standing.{RootsAre, StandsFor, Start}
 use Rattle.registry_core.specs.Trace.{IsSoundTrace, Trace, kept_for_users, promise_of}
-use Rattle.registry_core.proofs.EndTraces.{EndsTrace, ends-gone, ends-kept, found_All, kept_id, kept_own}
-use Rattle.registry_core.proofs.EndedMore.{IsEndOf, ended_data, ended_ids, ended_loading, ended_open}
+use Rattle.registry_core.proofs.EndTraces.{EndsTrace, ends-gone, ends-kept}
+use Rattle.registry_core.proofs.EndedMore.{IsEndOf, ended_ids, ended_loading, ended_open}
 use Rattle.registry_core.proofs.EndedMore.{ended_promised}
-use Rattle.registry_core.proofs.KeepsMore.{IsUntold-more, KeepsTrace-more, promise_kept}
+use Rattle.registry_core.proofs.FoundItems.{All-found}
+use Rattle.registry_core.proofs.KeepsMore.{KeepsTrace-more, promise_kept}
+use Rattle.registry_core.proofs.KeptTraces.{kept_id, kept_own}
+use Rattle.registry_core.proofs.LawEntries.{untold_stays}
 
 -- the registry after one of its traces has ended, with these traces left
 abbrev pub after_end : RegistryValue → Trace → List Trace → RegistryValue
@@ -39,15 +42,14 @@ stands-ended are start r entries e t left stands kept end ends sound = record {
     stands.promised,
     ended_promised entries e t.id start.id end stands.ids,
     promise_kept are start entries t (stands.traces t.id t kept)
-        (found_All (has_id t.id) (IsSoundTrace r.place) r.traces t kept stands.sound.each).tracks,
+        (All-found (IsSoundTrace r.place) (has_id t.id) r.traces t stands.sound.each kept).tracks,
   );
   untold = λ id above.
       let given : t.id < r.next_id =
-      found_All (has_id t.id) (λ (u : Trace). u.id < r.next_id) r.traces t kept stands.sound.given in
+      All-found (λ (u : Trace). u.id < r.next_id) (has_id t.id) r.traces t stands.sound.given kept in
       let about : subject e ≡ t.id = end.about in
       let ne : eqb (subject e) id ≡ false = grind (arith, nat_tests) in
-      IsUntold-more entries e id (data_of_others entries e id ne) (fate_of_others entries e id ne)
-      (stands.untold id above);
+      untold_stays entries e id ne (stands.untold id above);
   opens = λ id. ended_open entries e t.id id end ∙ ap (λ b. b && not (eqb t.id id)) (stands.opens id)
       ∙ sym (ends.opens id);
   traces = λ id u now.
@@ -57,7 +59,7 @@ stands-ended are start r entries e t left stands kept end ends sound = record {
       let loading : u.loading ≡ is_loading (entries ++ e ∷ []) was.id = old.3
       ∙ ap₂ (λ b n. b && not (eqb t.id n)) keeps.loading (sym (kept_id r.traces id was old.1))
       ∙ sym (ended_loading entries e t.id was.id end) in
-      KeepsTrace-more are start entries e was u (ended_data entries e t.id was.id end) old.2 loading keeps;
+      KeepsTrace-more are start entries e was u (end.told entries was.id) old.2 loading keeps;
 }
 
 -- after a trace has ended that nobody uses

@@ -5,9 +5,9 @@ use Rattle.node_key.specs.History.{EntryOf}
 use Rattle.registry_core.specs.Registry.{IsSoundRegistry, RegistryValue, has_id, kept_trace, open_trace}
 use Rattle.registry_core.specs.Standing.{RootsAre, StandsFor, Start}
 use Rattle.registry_core.specs.Trace.{Trace, is_over}
-use Rattle.registry_core.proofs.EndTraces.{IsRising, find_agree, find-filter, find-map_same, is_open_as}
-use Rattle.registry_core.proofs.EndTraces.{is_some-map, kept_too, map_found}
+use Rattle.registry_core.proofs.FoundItems.{find_agree, find-filter, find-map_same, is_some-map, map_found}
 use Rattle.registry_core.proofs.KeepsMore.{KeepsTrace-same, SameTracks}
+use Rattle.registry_core.proofs.KeptTraces.{IsRising, is_open_as, kept_too}
 
 -- Each trace that the new list keeps is one of the old with other users, and the same are open.
 pub record DiffersInUsers (old new : List Trace) : Type 0 where

@@ -7,15 +7,17 @@ use Rattle.std.specs.Option.{option_or}
 use Rattle.std.proofs.lemmas.Bool.{eq-eqb}
 use Rattle.std.proofs.lemmas.Option.{same_Some}
 use Rattle.std.proofs.lemmas.Bool.Decides.{eqb_tells, nat_tests}
+use Rattle.trace_base.proofs.Ranges.{range_with_len-more}
 use Rattle.trace_base.specs.declared.names.TraceInfo.{TraceInfo}
 use Rattle.node_key.proofs.HistoryMore.{count_more, info_more, opened_more, or_none, published_more}
 use Rattle.node_key.specs.History.{EntryOf, Opened, info_of, is_loading, is_open, opened_ids, published_count}
 use Rattle.node_key.specs.History.{published_of}
+use Rattle.registry_core.proofs.KeepsMore.{promised_to, tracks_told}
+use Rattle.registry_core.proofs.KeptTraces.{kept_id}
 use Rattle.registry_core.proofs.LawEntries.{keeps_trace_of_others, open_of_others, opened_loads, opened_opens}
-use Rattle.registry_core.proofs.LawEntries.{promised_opened, promised_to, range_more, tracks_told}
-use Rattle.registry_core.proofs.LawEntries.{untold_stays}
-use Rattle.registry_core.proofs.LawTraces.{count_empty, get_replicate, kept_above, kept_id, kept_more}
-use Rattle.registry_core.proofs.LawTraces.{open_above, open_more}
+use Rattle.registry_core.proofs.LawEntries.{promised_opened, untold_stays}
+use Rattle.registry_core.proofs.LawTraces.{count_empty, get_replicate, kept_above, kept_more, open_above}
+use Rattle.registry_core.proofs.LawTraces.{open_more}
 use Rattle.registry_core.specs.Loading.{with_opened}
 use Rattle.registry_core.specs.Registry.{IsSoundRegistry, RegistryValue, kept_trace, open_trace}
 use Rattle.registry_core.specs.Standing.{IsUntold, KeepsTrace, KeepsTrack, RootsAre, StandsFor, Start}
@@ -122,7 +124,8 @@ stands-opened are start r entries info was sound =
       sound = sound;
       place = omega (arith, was.place, length-append entries (Opened id info ∷ []));
       ids = more ∙ ap (λ i. opened_ids entries ++ i ∷ []) was.next_id ∙ ap (λ xs. xs ++ (start.id + n) ∷ [])
-          was.ids ∙ range_more start.id n ∙ ap (range_with_len start.id) (sym count);
+          was.ids ∙ sym (range_with_len-more start.id n (start.id + n) refl)
+          ∙ ap (range_with_len start.id) (sym count);
       next_id = omega (arith, was.next_id);
       promised = omega
           (arith, was.promised, promised_opened entries id info start.id n was.ids was.next_id);

@@ -1,24 +1,27 @@
 -- A registry that stands for a history still does after a track was published.
-use Rattle.std.proofs.Common.{◌≡◌, ℕ, ◌+◌, ◌-◌, ◌<◌, inl, inr, true, false, ◌&&◌, cond, eqb, List, [], ◌∷◌}
+use Rattle.std.proofs.Common.{◌≡◌, ℕ, ◌+◌, ◌-◌, ◌<◌, inl, inr, false, ◌&&◌, cond, eqb, List, [], ◌∷◌}
 use Rattle.std.proofs.Common.{◌++◌, length, take, set, None, Some, refl, sym, ap, ap₂, ◌∙◌, subst, arith}
 use Rattle.std.proofs.Common.{length-append, take_all, IsTrue}
 use Rattle.std.specs.Prelude.{slice_get}
 use Rattle.std.specs.Option.{option_or}
 use Rattle.std.proofs.lemmas.Bool.{eq-eqb}
 use Rattle.std.proofs.lemmas.Bool.Decides.{eqb_tells}
+use Rattle.std.proofs.lemmas.List.{length-set}
 use Rattle.std.proofs.lemmas.Option.{same_Some, slice_get_within}
 use Rattle.std.proofs.Math.Seq.{take-append_seam}
 use Rattle.node_key.proofs.HistoryMore.{count_more, info_more, or_none, published_more}
 use Rattle.node_key.specs.History.{EntryOf, Published, info_of, is_loading, published_count, published_of}
-use Rattle.node_key.specs.History.{tracks_of}
-use Rattle.registry_core.proofs.LawEntries.{keeps_track_stays, loading_published, promise_told, promised_to}
-use Rattle.registry_core.proofs.LawEntries.{tracks_told}
-use Rattle.registry_core.proofs.LawTraces.{count_filled, found_holds, get_set_other, get_set_same, kept_id}
-use Rattle.registry_core.proofs.StandsPromised.{IsPromised, stands-promised}
+use Rattle.registry_core.proofs.FoundItems.{All-found}
+use Rattle.registry_core.proofs.KeepsMore.{KeepsTrack-more}
+use Rattle.registry_core.proofs.KeptTraces.{kept_id}
+use Rattle.registry_core.proofs.LawEntries.{loading_published}
+use Rattle.registry_core.proofs.LawTraces.{count_filled, get_set_other, get_set_same}
+use Rattle.registry_core.proofs.SoundLoads.{promise-published}
+use Rattle.registry_core.proofs.StandsPromised.{IsPromised, IsPromised-from, stands-promised}
 use Rattle.registry_core.specs.Loading.{AwaitsTrack, with_published}
 use Rattle.registry_core.specs.Registry.{IsSoundRegistry, RegistryValue, has_id, kept_trace}
 use Rattle.registry_core.specs.Standing.{IsPublishedBy, KeepsTrace, KeepsTrack, RootsAre, StandsFor, Start}
-use Rattle.registry_core.specs.Trace.{IsSoundTrace, Trace, published_tracks, with_root}
+use Rattle.registry_core.specs.Trace.{IsSoundTrace, Trace, with_root}
 use Rattle.registry_core.specs.declared.track_root.TrackRoot.{TrackRoot}
 
 -- what is told of the trace after the publication
@@ -93,7 +96,7 @@ keeps_published are start entries t track root what empty is place keeps =
                 ap (slice_get (set t.tracks track (Some root))) same.1 ∙ at) in
                 subst (λ i. KeepsTrack are start new id i slot) same.1
                 (subst (KeepsTrack are start new id track) filled this)
-            | inr off ↦ keeps_track_stays are start entries (Published id track what) id other slot
+            | inr off ↦ KeepsTrack-more are start entries (Published id track what) id other slot
                 (more.others other off.0)
                 (keeps.tracks other slot (sym (get_set_other t.tracks track other (Some root) off.1) ∙ at))
           ];
@@ -109,31 +112,12 @@ published_promised : {X : Type 0} (are : RootsAre X) (start : Start) (r : Regist
 published_promised are start r entries t track from root what was kept loading empty is =
     let id = t.id in
     let made : TrackRoot = record { start = from; root = root; place = r.place + 1 } in
-    let keeps = was.traces id t kept in
-    let more = one_more entries id track what in
-    let loads : is_loading entries id ≡ true = sym keeps.loading ∙ loading in
-    let each : IsSoundTrace r.place t =
-    found_holds (IsSoundTrace r.place) (has_id id) r.traces t was.sound.each kept in
-    let told : tracks_of entries id ≡ length t.info.names.tracks = tracks_told entries id t.info keeps.info in
-    let tells : tracks_of (entries ++ Published id track what ∷ []) id ≡ length t.info.names.tracks =
-    tracks_told (entries ++ Published id track what ∷ []) id t.info (more.info ∙ keeps.info) in
-    let fewer : published_tracks t < length t.tracks = (count_filled t.tracks track made empty).1 in
-    let promise_was : promised_to entries id ≡ promise_told entries id =
-    ap (λ b. cond b (promise_told entries id) 0) loads in
-    let promise_is : promised_to (entries ++ Published id track what ∷ []) id ≡ promise_told
-    (entries ++ Published id track what ∷ []) id =
-    ap (λ b. cond b (promise_told (entries ++ Published id track what ∷ []) id) 0) (more.loading ∙ loads) in
-    record {
-      about = refl;
-      loads = loads;
-      opens_none = refl;
-      ends_none = λ other. refl;
-      keeps_id = λ t. refl;
-      keeps_open = λ t. refl;
-      promise = omega
-          (arith, promise_was, promise_is, told, tells, fewer, each.tracks, keeps.count, more.count);
-      keeps = keeps_published are start entries t track made what empty is (omega (arith, was.place)) keeps;
-    }
+    let slots = (All-found (IsSoundTrace r.place) (has_id id) r.traces t was.sound.each kept).tracks in
+    IsPromised-from are start r entries (Published id track what) (with_root track made) t was kept loading
+    refl refl (λ other. refl) (λ t. refl) (λ t. refl) (promise-published track made t loading empty)
+    (length-set t.tracks track (Some made) ∙ slots)
+    (keeps_published are start entries t track made what empty is (omega (arith, was.place))
+    (was.traces id t kept))
 
 -- a track more is published
 pub stands-published : {X : Type 0} (are : RootsAre X) (start : Start) (r : RegistryValue)

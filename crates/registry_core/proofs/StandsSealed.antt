@@ -1,12 +1,14 @@
 -- A registry that stands for a history still does after a load has ended.
-use Rattle.std.proofs.Common.{◌≡◌, ℕ, true, false, cond, List, [], ◌∷◌, ◌++◌, length, Some, refl, sym, ap}
-use Rattle.std.proofs.Common.{◌∙◌, subst, arith, IsTrue}
+use Rattle.std.proofs.Common.{◌≡◌, ℕ, List, [], ◌∷◌, ◌++◌, length, Some, refl, sym}
+use Rattle.std.proofs.Common.{subst, IsTrue}
 use Rattle.node_key.proofs.HistoryMore.{data_sealed}
-use Rattle.node_key.specs.History.{EntryOf, Sealed, is_loading, tracks_of}
-use Rattle.registry_core.proofs.LawEntries.{keeps_trace_stays, promise_told, promised_to, sealed_loaded}
-use Rattle.registry_core.proofs.LawEntries.{tracks_told}
-use Rattle.registry_core.proofs.LawTraces.{found_holds, kept_id}
-use Rattle.registry_core.proofs.StandsPromised.{IsPromised, stands-promised}
+use Rattle.node_key.specs.History.{EntryOf, Sealed}
+use Rattle.registry_core.proofs.FoundItems.{All-found}
+use Rattle.registry_core.proofs.KeepsMore.{KeepsTrace-more}
+use Rattle.registry_core.proofs.KeptTraces.{kept_id}
+use Rattle.registry_core.proofs.LawEntries.{sealed_loaded}
+use Rattle.registry_core.proofs.SoundLoads.{promise-sealed}
+use Rattle.registry_core.proofs.StandsPromised.{IsPromised, IsPromised-from, stands-promised}
 use Rattle.registry_core.specs.Loading.{AwaitsSeal, with_sealed}
 use Rattle.registry_core.specs.Registry.{IsSoundRegistry, RegistryValue, has_id, kept_trace}
 use Rattle.registry_core.specs.Standing.{RootsAre, StandsFor, Start}
@@ -19,27 +21,12 @@ sealed_promised : {X : Type 0} (are : RootsAre X) (start : Start) (r : RegistryV
     → IsPromised are start entries (Sealed t.id) loaded t
 sealed_promised are start r entries t was kept loading all =
     let id = t.id in
-    let new = entries ++ Sealed id ∷ [] in
-    let keeps = was.traces id t kept in
-    let loads : is_loading entries id ≡ true = sym keeps.loading ∙ loading in
-    let ended : is_loading new id ≡ false = sealed_loaded entries id in
-    let each : IsSoundTrace r.place t =
-    found_holds (IsSoundTrace r.place) (has_id id) r.traces t was.sound.each kept in
-    let told : tracks_of entries id ≡ length t.info.names.tracks = tracks_told entries id t.info keeps.info in
-    let promise_was : promised_to entries id ≡ promise_told entries id =
-    ap (λ b. cond b (promise_told entries id) 0) loads in
-    let promise_is : promised_to new id ≡ 0 = ap (λ b. cond b (promise_told new id) 0) ended in
-    record {
-      about = refl;
-      loads = loads;
-      opens_none = refl;
-      ends_none = λ other. refl;
-      keeps_id = λ t. refl;
-      keeps_open = λ t. refl;
-      promise = omega (arith, promise_was, promise_is, told, all, each.tracks, keeps.count);
-      keeps = keeps_trace_stays are start entries (Sealed id) t false (data_sealed entries id id) (sym ended)
-          keeps;
-    }
+    let slots = (All-found (IsSoundTrace r.place) (has_id id) r.traces t was.sound.each kept).tracks in
+    IsPromised-from are start r entries (Sealed id) loaded t was kept loading refl refl (λ other. refl)
+    (λ t. refl) (λ t. refl) (promise-sealed t loading all) slots
+    (KeepsTrace-more are start entries (Sealed id) t (loaded t) (data_sealed entries id id)
+    (record { id = refl; info = refl; tracks = refl }) (sym (sealed_loaded entries id))
+    (was.traces id t kept))
 
 -- a trace fewer is loading
 pub stands-sealed : {X : Type 0} (are : RootsAre X) (start : Start) (r : RegistryValue)

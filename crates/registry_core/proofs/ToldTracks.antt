@@ -10,15 +10,16 @@ use Rattle.std.proofs.lemmas.Bool.{leb-true}
 use Rattle.std.proofs.lemmas.Bool.Decides.{eqb_tells, nat_tests}
 use Rattle.std.proofs.lemmas.List.{take-append-drop, take-take}
 use Rattle.std.proofs.lemmas.List.Sums.{sum_by-cons}
-use Rattle.std.proofs.lemmas.Option.{same_Some}
 use Rattle.trace_base.specs.declared.published.Published.TheVariants.{NotYet, Root}
 use Rattle.node_key.specs.History.{Asked, Closed, Dropped, EntryOf, Opened, Published, Sealed, published_as}
 use Rattle.node_key.specs.History.{published_count, published_of, publishes}
 use Rattle.node_key.proofs.HistoryMore.{first-append}
+use Rattle.node_key.proofs.Ranges.{Lacks, more, range_above, range_below}
 use Rattle.registry_core.specs.Registry.{RegistryValue, kept_trace}
 use Rattle.registry_core.specs.Standing.{KeepsTrace, KeepsTrack, RootsAre, StandsFor, Start}
 use Rattle.registry_core.specs.Trace.{Trace, published_tracks, seen_by_place, told_of}
 use Rattle.registry_core.specs.declared.track_root.TrackRoot.{TrackRoot}
+use Rattle.registry_core.proofs.KeptTraces.{kept_id}
 
 -- ---- a longer front tells no less
 
@@ -149,29 +150,11 @@ at_most (Asked ∷ entries) id tracks once = at_most entries id tracks once
 
 -- ---- a range, and one number outside of it
 
--- a number below a range isn't in it
-none_below : (x a n : ℕ) → x < a → count_by (eqb x) (range_with_len a n) ≡ 0
-none_below x a zero lt = refl
-none_below x a (suc n) lt =
-    let differ : eqb x a ≡ false = grind (arith, nat_tests) in
-    omega (
-      arith,
-      count-cons (eqb x) a (range_with_len (a + 1) n),
-      ap one_if differ,
-      none_below x (a + 1) n (omega arith),
-    )
-
--- a number past a range isn't in it
-none_past : (x a n : ℕ) → a + n ≤ x → count_by (eqb x) (range_with_len a n) ≡ 0
-none_past x a zero le = refl
-none_past x a (suc n) le =
-    let differ : eqb x a ≡ false = grind (arith, nat_tests) in
-    omega (
-      arith,
-      count-cons (eqb x) a (range_with_len (a + 1) n),
-      ap one_if differ,
-      none_past x (a + 1) n (omega arith),
-    )
+-- a number that a list lacks isn't counted in it
+count_lacks : (x : ℕ) (xs : List ℕ) → Lacks x xs → count_by (eqb x) xs ≡ 0
+count_lacks x [] lacks = refl
+count_lacks x (y ∷ ys) (more z zs other rest) =
+    omega (arith, count-cons (eqb x) y ys, ap one_if other, count_lacks x ys rest)
 
 -- each number of a range stands in it once
 range_once : (a n : ℕ) → EachOnce (range_with_len a n)
@@ -183,7 +166,7 @@ range_once a (suc n) x =
         arith,
         first,
         ap one_if same.0,
-        none_below x (a + 1) n (omega (arith, same.1)),
+        count_lacks x (range_with_len (a + 1) n) (range_above (a + 1) n x (omega (arith, same.1))),
       )
       | inr other ↦ omega (arith, first, ap one_if other.0, range_once (a + 1) n x)
     ]
@@ -197,7 +180,7 @@ past_once y n le x =
         arith,
         first,
         ap one_if same.0,
-        none_past x 0 n (omega (arith, same.1)),
+        count_lacks x (range_with_len 0 n) (range_below 0 n x (omega (arith, same.1))),
       )
       | inr other ↦ omega (arith, first, ap one_if other.0, range_once 0 n x)
     ]
@@ -261,17 +244,6 @@ none_past_slots {X} are start entries t track keeps past = by (published_of entr
     ))
 
 -- ---- what is told of a track as of a place
-
--- the trace that is found has the id
-found_id : (traces : List Trace) (id : ℕ) (t : Trace) → kept_trace traces id ≡ Some t → t.id ≡ id
-found_id [] id t at = absurd cc
-found_id (x ∷ traces) id t at = elim (eqb_tells x.id id) [
-  | inl same ↦
-      let found : x ≡ t = same_Some x t
-      (sym (ap (λ b. cond b (Some x) (kept_trace traces id)) same.0) ∙ at) in
-      sym (ap (λ (y : Trace). y.id) found) ∙ same.1
-  | inr other ↦ found_id traces id t (sym (ap (λ b. cond b (Some x) (kept_trace traces id)) other.0) ∙ at)
-]
 
 -- a root that a trace tells as of a place was published by then
 root_told : {X : Type 0} (are : RootsAre X) (start : Start) (entries : List (EntryOf X)) (t : Trace)
@@ -339,7 +311,7 @@ pub published_told : {X : Type 0} (are : RootsAre X) (start : Start) (r : Regist
 published_told are start r entries id place track from root t stands at told =
     let it = root_told are start entries t place track from root (stands.traces id t at) told in (
       it.0,
-      ap (λ n. published_of (take (place - start.place) entries) n track) (sym (found_id r.traces id t at))
+      ap (λ n. published_of (take (place - start.place) entries) n track) (sym (kept_id r.traces id t at))
           ∙ it.1,
       it.2,
     )
@@ -350,7 +322,7 @@ pub not_yet_told : {X : Type 0} (are : RootsAre X) (start : Start) (r : Registry
     → kept_trace r.traces id ≡ Some t → told_of t place track ≡ NotYet
     → published_of (take (place - start.place) entries) id track ≡ None
 not_yet_told are start r entries id place track t stands at told =
-    ap (λ n. published_of (take (place - start.place) entries) n track) (sym (found_id r.traces id t at))
+    ap (λ n. published_of (take (place - start.place) entries) n track) (sym (kept_id r.traces id t at))
     ∙ none_told are start entries t place track (stands.traces id t at) told
 
 -- ---- more roots
@@ -360,10 +332,10 @@ track_kept : {X : Type 0} (are others : RootsAre X) (start : Start) (entries : L
     (id track : ℕ) (slot : Option TrackRoot)
     → ((from root : ℕ) (what : X) → are from root what → others from root what)
     → KeepsTrack are start entries id track slot → KeepsTrack others start entries id track slot
-track_kept are others start entries id track None more keeps = keeps
-track_kept are others start entries id track (Some r) more (what, is, since, by) = (
+track_kept are others start entries id track None stays keeps = keeps
+track_kept are others start entries id track (Some r) stays (what, is, since, by) = (
   what,
-  more r.start r.root what is,
+  stays r.start r.root what is,
   since,
   by,
 )
@@ -372,7 +344,7 @@ track_kept are others start entries id track (Some r) more (what, is, since, by)
 pub stands_with_more : {X : Type 0} (are others : RootsAre X) (start : Start) (r : RegistryValue)
     (entries : List (EntryOf X)) → ((from root : ℕ) (what : X) → are from root what → others from root what)
     → StandsFor are start r entries → StandsFor others start r entries
-stands_with_more are others start r entries more stands = record {
+stands_with_more are others start r entries stays stands = record {
   sound = stands.sound;
   place = stands.place;
   ids = stands.ids;
@@ -386,7 +358,7 @@ stands_with_more are others start r entries more stands = record {
         info = keeps.info;
         loading = keeps.loading;
         count = keeps.count;
-        tracks = λ track slot is. track_kept are others start entries t.id track slot more
+        tracks = λ track slot is. track_kept are others start entries t.id track slot stays
             (keeps.tracks track slot is);
       };
 }

@@ -2,12 +2,11 @@
 use Rattle.std.proofs.Common.{◌≡◌, ℕ, ◌+◌, ◌-◌, ◌<◌, ◌≤◌, Bool, true, false, cond, not, ◌&&◌, ◌||◌, eqb}
 use Rattle.std.proofs.Common.{◌==◌, if◌then◌else◌, ◌⊎◌, inl, inr, List, [], ◌∷◌, map, filter, length, get_or}
 use Rattle.std.proofs.Common.{All, Contains, sum_by, count_by, None, Some, option_map, refl, sym, ap, ap₂}
-use Rattle.std.proofs.Common.{◌∙◌, arith, nat_cmp, Less}
+use Rattle.std.proofs.Common.{◌∙◌, arith}
 use Rattle.std.specs.List.{find}
-use Rattle.std.specs.List.Sorted.{IsStrictlySortedBy}
 use Rattle.std.proofs.lemmas.Bool.{and_parts, eq-eqb, eqb-true, not-false, or_right}
 use Rattle.std.proofs.lemmas.Bool.Decides.{eqb_tells, nat_tests}
-use Rattle.std.proofs.lemmas.List.Elements.{All-cons, All-contains, All-map, All-nil, Contains-append_right}
+use Rattle.std.proofs.lemmas.List.Elements.{All-contains, All-map, Contains-append_right}
 use Rattle.std.proofs.lemmas.List.Folds.{fold-map}
 use Rattle.std.proofs.lemmas.List.Sums.{count_by-le-length, sum_by-cons}
 use Rattle.std.proofs.lemmas.Option.{same_Some}
@@ -19,7 +18,9 @@ use Rattle.registry_core.specs.Registry.{IsSoundRegistry, RegistryValue, has_id,
 use Rattle.registry_core.specs.Registry.{open_count}
 use Rattle.registry_core.specs.Trace.{IsSoundTrace, Trace, is_over, promise_of, published_tracks, roots_in}
 use Rattle.registry_core.specs.Trace.{used_less}
-use Rattle.registry_core.proofs.FilteredLists.{all_of_keys, filter-filter, filter_agrees, find-filter}
+use Rattle.registry_core.proofs.FilteredLists.{filter-filter, filter_agrees}
+use Rattle.registry_core.proofs.FoundItems.{find-filter_same}
+use Rattle.registry_core.proofs.KeptTraces.{kept_each}
 
 -- ---- numbers of users
 
@@ -59,27 +60,12 @@ asked_or_not id (x ∷ xs) =
       ]
     ]
 
--- each trace is the one that is kept with its id
-pub kept_itself : (traces : List Trace) → IsStrictlySortedBy nat_cmp (map (λ (t : Trace). t.id) traces)
-    → All (λ t. kept_trace traces t.id ≡ Some t) traces
-unfolding IsStrictlySortedBy
-kept_itself [] rising = All-nil (λ t. kept_trace [] t.id ≡ Some t)
-kept_itself (t ∷ traces) rising =
-    let above : All (λ (u : Trace). nat_cmp t.id u.id ≡ Less) traces =
-    all_of_keys (λ id. nat_cmp t.id id ≡ Less) (λ (u : Trace). u.id) traces rising.0 in
-    All-cons (λ u. kept_trace (t ∷ traces) u.id ≡ Some u) t traces
-    (ap (λ b. cond b (Some t) (kept_trace traces t.id)) (eq-eqb t.id t.id refl))
-    (λ k d lt. let u = get_or traces k d in
-    let less : nat_cmp t.id u.id ≡ Less = above k d lt in
-    let other : eqb t.id u.id ≡ false = grind (arith, nat_tests) in
-    ap (λ b. cond b (Some t) (kept_trace traces u.id)) other ∙ kept_itself traces rising.1 k d lt)
-
 -- where traces are in use, each has as many users as times it is named
 pub used_each : (r : RegistryValue) (ids : AskIds) → IsSoundRegistry r → AreUsed r ids
     → All (λ (t : Trace). times_asked ids t.id ≤ t.users) r.traces
 used_each r ids sound used k d lt =
     let t = get_or r.traces k d in
-    let kept : kept_trace r.traces t.id ≡ Some t = kept_itself r.traces sound.rising k d lt in
+    let kept : kept_trace r.traces t.id ≡ Some t = kept_each r.traces sound.rising k d lt in
     elim (asked_or_not t.id (asked_ids ids)) [
       | inl none ↦ omega (arith, none)
       | inr asked ↦
@@ -189,7 +175,7 @@ pub second_freed : (a b : ℕ) (traces : List Trace)
     ≡ (if a == b then None else option_map (λ (t : Trace). roots_in t.tracks)
     (find (λ t. has_id b t && is_over t) traces))
 second_freed a b traces =
-    ap (option_map (λ (t : Trace). roots_in t.tracks)) (find-filter (λ t. not (has_id a t && is_over t))
+    ap (option_map (λ (t : Trace). roots_in t.tracks)) (find-filter_same (λ t. not (has_id a t && is_over t))
     (λ t. has_id b t && is_over t) (not (eqb a b)) (none_of_the_first a b) traces)
     ∙ elim (eqb a b) as (λ c. option_map (λ (t : Trace). roots_in t.tracks)
     (cond (not c) (find (λ t. has_id b t && is_over t) traces) None)

@@ -9,9 +9,9 @@ use Rattle.trace_base.specs.declared.asks.AskIds.TheVariants.{One, Two}
 use Rattle.registry_core.specs.Asking.{times_asked, with_users, without_users}
 use Rattle.registry_core.specs.Registry.{has_id, kept_trace, with_changed}
 use Rattle.registry_core.specs.Trace.{Trace, used_less, used_more}
-use Rattle.registry_core.proofs.ById.{All-with_changed}
-use Rattle.registry_core.proofs.FilteredLists.{All-found}
-use Rattle.registry_core.proofs.LawTraces.{KeepsId, kept_id}
+use Rattle.registry_core.proofs.FoundItems.{All-found}
+use Rattle.registry_core.proofs.KeptTraces.{All-with_changed, kept_id}
+use Rattle.registry_core.proofs.LawTraces.{KeepsId}
 
 -- a test for the same number, either way round
 eqb_flip : (a b : ℕ) → eqb a b ≡ eqb b a

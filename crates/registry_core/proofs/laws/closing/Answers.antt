@@ -4,8 +4,8 @@ use Rattle.node_key.specs.History.{Asked, Closed}
 use Rattle.registry_core.specs.Registry.{FitsPlaces, RegistryValue}
 use Rattle.registry_core.specs.Standing.{AreTrees, StandsFor}
 use Rattle.registry_core.specs.Trace.{promise_of}
-use Rattle.registry_core.proofs.EndTraces.{kept_own, open_kept}
 use Rattle.registry_core.proofs.EndedMore.{IsEndOf-closed}
+use Rattle.registry_core.proofs.KeptTraces.{kept_own, open_kept}
 use Rattle.registry_core.proofs.SoundLoads.{sound-ended, sound-entry, sound-kept}
 use Rattle.registry_core.proofs.StandsAsked.{stands-asked}
 use Rattle.registry_core.proofs.StandsEnded.{stands-gone, stands-kept}

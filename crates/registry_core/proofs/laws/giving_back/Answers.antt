@@ -3,7 +3,7 @@ use Rattle.std.proofs.Common.{filter, not, refl}
 use Rattle.registry_core.specs.Asking.{times_asked, without_users}
 use Rattle.registry_core.specs.Standing.{AreTrees}
 use Rattle.registry_core.specs.Trace.{Trace, is_over, used_less}
-use Rattle.registry_core.proofs.EndTraces.{IsRising-map}
+use Rattle.registry_core.proofs.KeptTraces.{IsRising-map}
 use Rattle.registry_core.proofs.SoundAsks.{sound-unpinned}
 use Rattle.registry_core.proofs.StandsGiven.{differs-over, differs-users, stands-given}
 use Rattle.registry_core.proofs.laws.giving_back.Goals as goal

@@ -1,6 +1,5 @@
 use Rattle.std.proofs.Common.{◌∙◌, ap, ap₂, refl, subst, sym}
-use Rattle.trace_base.specs.declared.names.TraceInfo.{TraceInfo}
-use Rattle.registry_core.specs.Examples.{two_tracks, with_none}
+use Rattle.registry_core.specs.Examples.{two_tracks}
 use Rattle.registry_core.specs.Loading.{IsLoadingTrace, with_opened, with_published}
 use Rattle.registry_core.specs.Trace.{just_opened, with_root}
 use Rattle.registry_core.proofs.tests.give_up_unused.Goals as goal

@@ -4,7 +4,7 @@ use Rattle.std.specs.List.{All}
 use Rattle.registry_core.specs.Asking.{with_users}
 use Rattle.registry_core.specs.Registry.{with_changed}
 use Rattle.registry_core.specs.Trace.{Trace, used_more}
-use Rattle.registry_core.proofs.FilteredLists.{All-found}
+use Rattle.registry_core.proofs.FoundItems.{All-found}
 use Rattle.registry_core.proofs.UsersOfTraces.{fewer_than, raised_twice}
 use Rattle.registry_core.proofs.traces.Traces.raise_all.Goals as goal
 

@@ -5,9 +5,9 @@ use Rattle.std.specs.Option.{option_map}
 use Rattle.registry_core.specs.Registry.{has_id, kept_trace}
 use Rattle.registry_core.specs.Trace.{Trace, is_over, roots_in}
 use Rattle.registry_core.proofs.ById.{AreKept-from, filter-not_has_id, filter-not_has_id-none}
-use Rattle.registry_core.proofs.ById.{find-has_id-none, find-has_id-not, find-has_id-some, ids_rise}
-use Rattle.registry_core.proofs.ById.{lent_kept, lookup_kept}
-use Rattle.registry_core.proofs.EndTraces.{IsRising}
+use Rattle.registry_core.proofs.ById.{find-has_id-not, find-has_id-some, ids_rise, lent_kept, lookup_kept}
+use Rattle.registry_core.proofs.FoundItems.{find_stricter}
+use Rattle.registry_core.proofs.KeptTraces.{IsRising}
 use Rattle.registry_core.proofs.traces.Traces.take_over.Goals as goal
 use Rattle.registry_core.proofs.traces.Traces.take_over.Goals.{In_err-trace, In_ok-trace}
 
@@ -17,7 +17,7 @@ use Rattle.registry_core.proofs.traces.Traces.take_over.Goals.{In_err-trace, In_
 none : (c : In_err-trace) → find (λ t. has_id c.args.id t && is_over t) c.args.self.now ≡ None
 none c =
     let k = AreKept-from _ _ c.self.invariant.0 c.self.invariant.1 c.self.view_is in
-    find-has_id-none is_over c.args.id c.args.self.now (ids_rise k)
+    find_stricter (has_id c.args.id) is_over c.args.self.now
     (sym (lookup_kept c.args.id k) ∙ sym c.in_err-trace.ensures.value)
 
 pub returns-in_err-trace-clause-roots : goal.returns-in_err-trace-clause-roots
