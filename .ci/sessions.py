@@ -28,6 +28,20 @@ DEFINITIONS = FIRST_TEXT[:567]
 HEAD = FIRST_TEXT[:593]
 RANK = '2 0 p0 P 0 "rank 0"\n'
 CALL = RANK + "4 0 S p0 main\n5 0.5 S p0\n3 0.5 P p0\n"
+# What the first text has behind its head: main runs for half a second, and calls f twice.
+FIRST_CALLS = FIRST_TEXT[593:].decode()
+# The same one second later, and with the second call of f 16 nanoseconds later still.
+LATER_CALLS = '''\
+2 1 p0 P 0 "rank 0"
+4 1 S p0 main
+4 1.1 S p0 f
+5 1.2 S p0
+4 1.3 S p0 f
+5 1.4 S p0
+5 1.5 S p0
+3 1.5 P p0
+'''
+SHIFTED_CALLS = LATER_CALLS.replace("1.3 S", "1.300000016 S").replace("1.4 S", "1.400000016 S")
 FIRST_REPLIES = (b"OK PUT 1 1 2 0 @3\nOK FLAT 2 1 0 @4\n1 1 500000000 300000000 main\n"
                  b"2 2 200000000 200000000 f\nOK QUIT\nLEFT 1 3\n")
 
@@ -73,6 +87,34 @@ THREE_TRACKS = '''\
 3 8 P p1
 3 8 P p2
 '''
+
+# main is open to 0.4 in p0 and to 0.5 in p1 and p2; f from 0.1 to 0.3 in p1, and from 0.2 to 0.3 in p2.
+THREE_EQUAL_TRACKS = '''\
+2 0 p0 P 0 "rank 0"
+2 0 p1 P 0 "rank 1"
+2 0 p2 P 0 "rank 2"
+4 0 S p0 main
+4 0 S p1 main
+4 0 S p2 main
+4 0.1 S p1 f
+4 0.2 S p2 f
+5 0.3 S p1
+5 0.3 S p2
+5 0.4 S p0
+5 0.5 S p1
+5 0.5 S p2
+3 0.5 P p0
+3 0.5 P p1
+3 0.5 P p2
+'''
+
+# main runs for half a second, and makes 431 calls of no time. A call has 149 bytes, and the other lines with
+# the head have 781.
+ALIAS = "p0123456789012345678901234567890"
+FUNCTION = "solve012345678901234567890123456"
+MANY_CALLS = ('2 0 %s P 0 "rank 0 of the text"\n4 0 S %s main\n' % (ALIAS, ALIAS)
+              + "4 {0} S {1} {2}\n5 {0} S {1}\n".format("0000000000.100000000", ALIAS, FUNCTION) * 431
+              + "5 0.5 S %s\n3 0.5 P %s\n" % (ALIAS, ALIAS))
 
 # Three messages begin and two end, of the keys k1 and k2.
 MESSAGES = '''\
@@ -171,6 +213,8 @@ REFUSED_LINES = {
                                       "37 UnknownNumber"),
     "a refused last line without its newline": (CALL + "9 1", "40 UnknownNumber"),
     "a number that is defined": ("%EventDef PajePopState 5\n", "36 DoubleNumber"),
+    "two lines without dates behind a comment": ("#\n2 x p0 P 0 a\n2 y p1 P 0 b\n", "37 DateShape"),
+    "a definition that is left open": ("%EventDef PajeNewEvent 6\n% Time date\n", "38 Unended"),
 }
 
 # Whole texts, likewise.
@@ -208,6 +252,7 @@ SESSIONS = {
     "a line that is no request": (b"LIST\n", b"NO 10\n", b"0 0"),
     "a trace that isn't open": (b"FLAT 7 * 0 1\n", b"NO 30 7 @1\n", b"0 0"),
     "a leading zero, a space too many, an empty line": (b"FLAT 01 * 0 5\nLIST \n\n", b"NO 10\n" * 3, b"0 0"),
+    "a line of 4,096 bytes": (b"x" * 4096 + b"\nFLAT 7 * 0 1\n", b"NO 10\nNO 30 7 @1\n", b"0 0"),
     "a line of 4,097 bytes": (b"x" * 4097 + b"\nFLAT 7 * 0 1\n", b"NO 10\nNO 30 7 @1\n", b"0 0"),
     "a line of 1,000,000 bytes": (b"x" * 1000000 + b"\nFLAT 7 * 0 1\n", b"NO 10\nNO 30 7 @1\n", b"0 0"),
     "no text": (b"PUT 0\n", b"OK PUT 1 0 0 0 @2\n", b"1 0"),
@@ -248,6 +293,28 @@ SESSIONS = {
     "the most traces": (b"PUT 0\n" * 1025 + b"PUT 2\nabFLAT 2 * 0 1\n",
                         b"".join(b"OK PUT %d 0 0 0 @%d\n" % (i, 2 * i) for i in range(1, 1025))
                         + b"NO 36 1024 @2049\nNO 20 1 NoNumber\nOK FLAT 0 0 0 @2050\n", b"1024 0"),
+    "the most traces, of texts with definitions": (
+        b"PUT 1\nx" + put("") * 1025 + b"FLAT 2 * 0 1\n",
+        b"NO 20 1 NoNumber\n" + b"".join(b"OK PUT %d 0 0 0 @%d\n" % (i, 2 * i) for i in range(1, 1025))
+        + b"NO 36 1024 @2049\nOK FLAT 0 0 0 @2050\n", b"1024 0"),
+    # Equal trees are stored once, whenever their tracks start. Where a gap differs, only f is shared.
+    "a trace twice": (put(FIRST_CALLS) * 2, b"OK PUT 1 1 2 0 @3\nOK PUT 2 1 2 0 @6\n", b"2 3"),
+    "a trace, and the same one second later": (put(FIRST_CALLS) + put(LATER_CALLS),
+                                               b"OK PUT 1 1 2 0 @3\nOK PUT 2 1 2 0 @6\n", b"2 3"),
+    "two traces that share f": (put(FIRST_CALLS) + put(SHIFTED_CALLS),
+                                b"OK PUT 1 1 2 0 @3\nOK PUT 2 1 2 0 @6\n", b"2 5"),
+    # Each has a tree of its own, of the root and main, and in p1 and p2 a call of f.
+    "two FLATs over three equal tracks": (put(THREE_EQUAL_TRACKS)
+                                          + b"FLAT 1 * 0 500000000\nFLAT 1 * 100000000 200000000\n",
+                                          b"OK PUT 1 3 2 0 @5\nOK FLAT 2 3 100000000 @6\n"
+                                          b"1 3 1400000000 1100000000 main\n2 2 300000000 300000000 f\n"
+                                          b"OK FLAT 2 3 0 @7\n1 0 300000000 200000000 main\n"
+                                          b"2 1 100000000 100000000 f\n", b"1 8"),
+    # 431 calls are 53 groups of 8 and one of 7. These are 6 groups of 8 groups, and one of 5 and that of 7.
+    # So there are the call, four different groups, main, and the root.
+    "a text of 65,000 bytes": (b"PUT 65000\n" + HEAD + MANY_CALLS.encode() + b"FLAT 1 * 0 500000000\n",
+                               b"OK PUT 1 1 2 0 @3\nOK FLAT 2 1 0 @4\n1 1 500000000 500000000 main\n"
+                               b"2 431 0 0 solve012345678901234567890123456\n", b"1 7"),
     # From 1.5 to 7 main is open for 2.5 and 3.5, of which 1 is work's; work for 1, and for 0.5 and 1 in p2.
     "two FLATs over three tracks": (put(THREE_TRACKS)
                                     + b"FLAT 1 * 1500000000 7000000000\nFLAT 1 * 0 1000000000\n",
@@ -259,6 +326,7 @@ SESSIONS = {
 
 # Requests, each with the reply that must come before the next is sent.
 EXCHANGES = [
+    (b"PUT 2\nab", b"NO 20 1 NoNumber\n"),
     (b"LIST\n", b"NO 10\n"),
     (put(CALL), b"OK PUT 1 1 1 0 @3\n"),
     (b"FLAT 1 * 0 500000000\n", b"OK FLAT 1 1 0 @4\n1 1 500000000 500000000 main\n"),
@@ -277,7 +345,8 @@ def sessions():
     """The name of each session, its words, its input, what is written, and the status."""
     yield "the first session", ["batch"], FIRST, FIRST_REPLIES, 0
     for name, (lines, told) in REFUSED_LINES.items():
-        yield name, ["batch"], put(lines) + b"QUIT\n", b"NO 20 %s\nOK QUIT\n" % told.encode() + NONE_LEFT, 0
+        told = b"NO 20 %s\nNO 30 1 @1\nOK QUIT\n" % told.encode()
+        yield name, ["batch"], put(lines) + b"FLAT 1 * 0 1\nQUIT\n", told + NONE_LEFT, 0
     for name, (text, told) in REFUSED_TEXTS.items():
         yield name, ["batch"], put_text(text) + b"QUIT\n", b"NO 20 %s\nOK QUIT\n" % told + NONE_LEFT, 0
     for name, (lines, counts, nodes) in TAKEN_LINES.items():
@@ -291,11 +360,14 @@ def sessions():
     yield "a text that is cut", ["batch"], b"PUT 9\nshort", NONE_LEFT, 6
     yield "a text that is cut behind a whole one", ["batch"], put(CALL) + put(CALL)[:-1], \
         b"OK PUT 1 1 1 0 @3\nLEFT 1 2\n", 6
+    for cut in 706, 720, 1400, 1409:
+        yield "a second text cut at %d" % cut, ["batch"], (put(FIRST_CALLS) + put(LATER_CALLS))[:cut], \
+            b"OK PUT 1 1 2 0 @3\nLEFT 1 3\n", 6
     for end in range(497, 697):
         yield "the first text cut at %d" % end, ["batch"], b"PUT 697\n" + FIRST_TEXT[:end], NONE_LEFT, 6
     for length in b"67108865", b"18446744073709551615":
         yield "a large text that is cut", ["batch"], b"PUT " + length + b"\nQUIT\n", NONE_LEFT, 6
-    for words in [], ["batch", "x"], ["serve"], [NO_TEXT], ["batch", NO_TEXT]:
+    for words in [], ["batch", "x"], ["serve"], ["Batch"], [NO_TEXT], ["batch", NO_TEXT]:
         yield "the words " + repr(words), words, b"", USAGE, 2
 
 
@@ -305,6 +377,12 @@ def failing_outputs():
     reader, writer = os.pipe()
     os.close(reader)
     yield "a closed pipe", writer
+
+
+def failing_inputs():
+    """A folder, and a device that is only written to: neither can be read."""
+    yield "a folder", os.open(TOP, os.O_RDONLY)
+    yield "an input that is only written to", os.open(os.devnull, os.O_WRONLY)
 
 
 def read_within(pipe, count, limit):
@@ -378,9 +456,13 @@ def results():
     for name, words, text, replies, status in sessions():
         yield name, run(words, text) != (replies, status)
     for name, output in failing_outputs():
-        for words in ["batch"], []:
+        for words in ["batch"], [], ["batch", "x"], ["serve"], ["Batch"]:
             yield name + " for the words " + repr(words), run(words, b"QUIT\n", output)[1] != 3
         os.close(output)
+    for name, descriptor in failing_inputs():
+        done = subprocess.run([PROGRAM, "batch"], stdin=descriptor, stdout=subprocess.PIPE, check=False)
+        yield name, (done.stdout, done.returncode) != (NONE_LEFT, 3)
+        os.close(descriptor)
     yield "a reply is written before more is read", waits_too_long()
     if PROGRAM != SCRIPT:
         yield "no memory to begin", begins_without_memory()

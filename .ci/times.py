@@ -1,6 +1,7 @@
 #!/usr/bin/env python3
 """Watches the checks that are started below the process of this number, until SIGTERM or that process's end, and
-prints the processor time that they took: for each crate its proof, its must-fail edits, and its tests' proof."""
+prints the processor time that they took: for each crate its proof, its must-fail edits and its tests' proof; then
+all of each kind, the longest chain of crates that stand on one another, and the wall time."""
 import collections
 import os
 import signal
@@ -10,8 +11,13 @@ import time
 TICKS = os.sysconf("SC_CLK_TCK")
 INTERVAL = 0.5
 KINDS = ("proof", "edits", "tests")
+CRATES = os.path.join(os.path.dirname(os.path.abspath(__file__)), os.pardir, "crates.txt")
 
 Process = collections.namedtuple("Process", "parent began ticks")
+
+
+class Ended(Exception):
+    """SIGTERM came."""
 
 
 def processes():
@@ -65,26 +71,72 @@ def look(top, seen):
             left += children[number]
 
 
-def table(seen):
-    """The lines that tell the seconds of each crate, the longest first."""
+def watch(top, seen):
+    """Looks until SIGTERM or the end of top, and once more then: what runs at the end counts too."""
+
+    def end(*_):
+        raise Ended
+
+    signal.signal(signal.SIGTERM, end)
+    try:
+        while os.path.isdir("/proc/%d" % top):
+            look(top, seen)
+            time.sleep(INTERVAL)
+    except Ended:
+        signal.signal(signal.SIGTERM, signal.SIG_IGN)
+        look(top, seen)
+
+
+def libraries():
+    """Each crate of crates.txt, with those of the repository that it stands on."""
+    found = {}
+    with open(CRATES) as file:
+        for line in file:
+            name, is_crate, below = line.partition("#")[0].partition(":")
+            if is_crate:
+                found[name.split()[0]] = below.split()
+    return {crate: [it for it in below if it in found] for crate, below in found.items()}
+
+
+def longest_chain(crates, below):
+    """The crates of the longest chain, lowest first, and its time: the proofs of all but the last, and what the
+    last one's proof or its tests took, which run side by side."""
+    chains = {}
+
+    def behind(crate):
+        if crate not in chains:
+            longest = max(map(behind, below[crate]), key=lambda it: it[1], default=([], 0))
+            chains[crate] = longest[0] + [crate], longest[1] + crates[crate]["proof"]
+        return chains[crate]
+
+    def whole(crate):
+        names, took = behind(crate)
+        return names, took + max(0, crates[crate]["tests"] - crates[crate]["proof"])
+
+    return max(map(whole, below), key=lambda it: it[1])
+
+
+def lines(seen, wall):
+    """The lines that tell the seconds of each crate, the longest first, and of all."""
     crates = collections.defaultdict(collections.Counter)
     for (crate, kind), ticks in seen.values():
         crates[crate][kind] += ticks / TICKS
     yield "processor seconds of the checks of this run (what an earlier run kept isn't checked again)"
+    row = "%-20s %8.0f %8.0f %8.0f %8.0f"
     yield "%-20s %8s %8s %8s %8s" % ("crate", *KINDS, "all")
     for crate, took in sorted(crates.items(), key=lambda it: -sum(it[1].values())):
-        yield "%-20s %8.0f %8.0f %8.0f %8.0f" % (crate, *(took[kind] for kind in KINDS), sum(took.values()))
+        yield row % (crate, *(took[kind] for kind in KINDS), sum(took.values()))
     whole = [sum(took[kind] for took in crates.values()) for kind in KINDS]
-    yield "%-20s %8.0f %8.0f %8.0f %8.0f" % ("all", *whole, sum(whole))
+    yield row % ("all", *whole, sum(whole))
+    chain, took = longest_chain(crates, libraries())
+    yield "the longest chain of crates: %.0f processor seconds: %s" % (took, " ".join(chain))
+    yield "wall time: %.0f seconds" % wall
 
 
 def main():
-    top, seen, ended = int(sys.argv[1]), {}, []
-    signal.signal(signal.SIGTERM, lambda *_: ended.append(True))
-    while not ended and os.path.isdir("/proc/%d" % top):
-        look(top, seen)
-        time.sleep(INTERVAL)
-    print(*table(seen), sep="\n", flush=True)
+    top, seen, began = int(sys.argv[1]), {}, time.monotonic()
+    watch(top, seen)
+    print(*lines(seen, time.monotonic() - began), sep="\n", flush=True)
 
 
 main()

@@ -1,13 +1,9 @@
 -- Exchanges of stakes, one after the other and among others.
-use Rattle.std.proofs.Common.{◌≡◌, ◌+◌, List, ◌++◌, refl, sym, subst, ◌∙◌, arith, cond}
-use Rattle.std.proofs.lemmas.List.Sums.{sum_by-append}
-use Rattle.node_key.specs.Seat.{ExchangesStakes, Seat}
-use Rattle.node_key.specs.Stakes.{HasStakes, same_stake, times}
+use Rattle.std.proofs.Common.{◌≡◌, List, ◌++◌, refl, sym, subst, ◌∙◌, arith}
+use Rattle.hall_history.specs.Seat.{ExchangesStakes, Seat}
+use Rattle.node_key.specs.Stakes.{HasStakes}
 use Rattle.node_key.specs.declared.stake.Stake.{Stake}
-
--- stakes of two lists
-pub times-append : (x : Stake) (xs ys : List Stake) → times x (xs ++ ys) ≡ times x xs + times x ys
-times-append x xs ys = sum_by-append (λ y. cond (same_stake x y) 1 0) xs ys
+use Rattle.node_key.proofs.StakeLaws.{times-append}
 
 -- nothing is exchanged
 pub exchanges-none : (old new : Seat) (xs : List Stake) → new ≡ old → ExchangesStakes old new xs xs

@@ -2,9 +2,10 @@
 use Rattle.std.proofs.Common.{◌≡◌, ℕ, ◌+◌, ◌^◌, ◌<◌, ◌≤◌, List, [], map, length, Option, Ok, refl, sym, ap}
 use Rattle.std.proofs.Common.{subst, arith, ◌∙◌}
 use Rattle.node_key.specs.Bound.{bound, grouped}
-use Rattle.node_key.specs.Seat.{ExchangesStakes, Seat}
+use Rattle.hall_history.specs.Seat.{ExchangesStakes, Seat}
 use Rattle.node_key.specs.declared.item.Item.{Item}
 use Rattle.trace_base.specs.declared.limits.TheConstants.{MAX_TIME}
+use Rattle.trace_base.proofs.Telling.{told_same, told_then}
 use Rattle.call_tree.proofs.BoundedLists.{Bounding, Bounding-low, Bounding-more, Bounding-start}
 use Rattle.call_tree.proofs.Chunks.{bound-few, length-grouped}
 use Rattle.builders.specs.Built.{StoredItem, built, items_in, stakes_held}
@@ -12,7 +13,6 @@ use Rattle.builders.specs.Builds.{BuildsItems, HoldsBetween, MayBeBound, WorkPai
 use Rattle.builders.specs.declared.built.BuiltItem.{BuiltItem}
 use Rattle.builders.proofs.Bags.{exchanges-none, exchanges-then, has-given}
 use Rattle.builders.proofs.ChunkGroups.{length-items}
-use Rattle.builders.proofs.Counts.{told_same, told_then}
 
 -- the list is built, and has the bounded list of all items
 pub record BoundSoFar (old now : Seat) (stored : List StoredItem) (bounded : List BuiltItem) : Type 0 where

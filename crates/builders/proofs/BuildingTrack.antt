@@ -3,7 +3,7 @@ use Rattle.std.proofs.Common.{◌≡◌, ℕ, ◌+◌, ◌<◌, ◌≤◌, List,
 use Rattle.std.proofs.Common.{Err, refl, sym, ap, subst, arith, ◌∙◌, reverse, length-append}
 use Rattle.std.proofs.lemmas.List.{drop_all, length-map, length-reverse, nil_from_length}
 use Rattle.std.proofs.lemmas.List.Sums.{sum_by-cons}
-use Rattle.node_key.specs.Seat.{ExchangesStakes, Seat}
+use Rattle.hall_history.specs.Seat.{ExchangesStakes, Seat}
 use Rattle.node_key.specs.Stakes.{HasStakes, stake}
 use Rattle.node_key.specs.Trees.{tree}
 use Rattle.trace_base.specs.Outside.{Told}
@@ -11,6 +11,7 @@ use Rattle.trace_base.specs.Stream.{IsLegal}
 use Rattle.trace_base.specs.declared.stream.Event.{Event}
 use Rattle.trace_base.specs.declared.stream.Event.TheVariants.{Enter, Leave}
 use Rattle.trace_base.specs.declared.stream.TrackStream.{TrackStream}
+use Rattle.trace_base.proofs.Telling.{told_same, told_then}
 use Rattle.call_tree.specs.Passing.{PassesEvent, closed_item}
 use Rattle.call_tree.specs.declared.pass.Open.{Open}
 use Rattle.call_tree.proofs.Passing.{Passing, Passing-end, Passing-may_come, Passing-start, Passing-step}
@@ -22,7 +23,6 @@ use Rattle.builders.specs.Calls.{calls_stakes, open_call, open_number, passed}
 use Rattle.builders.specs.declared.built.BuiltItem.{BuiltItem}
 use Rattle.builders.specs.declared.built.OpenCall.{OpenCall}
 use Rattle.builders.proofs.Bags.{exchanges-none, exchanges-then, has-given}
-use Rattle.builders.proofs.Counts.{told_same, told_then}
 
 -- The stakes that were there, and those on the items of all open calls. What each event costs was paid.
 pub record BuildingTrack (s : TrackStream) (old now : Seat) (was work : Option ℕ) (around : List OpenCall)

@@ -3,7 +3,7 @@ use Rattle.std.proofs.Common.{◌≡◌, ℕ, ◌<◌, List, [], ◌∷◌, map,
 use Rattle.std.proofs.Common.{arith, get_or, ◌∙◌, append-nil}
 use Rattle.node_key.specs.Bound.{group, start_of, stop_of}
 use Rattle.node_key.specs.Items.{FitBetween, node}
-use Rattle.node_key.specs.Seat.{ExchangesStakes, Seat}
+use Rattle.hall_history.specs.Seat.{ExchangesStakes, Seat}
 use Rattle.node_key.specs.Stakes.{stake}
 use Rattle.node_key.specs.declared.item.Item.{Item}
 use Rattle.call_tree.proofs.Fits.{FitBetween-parts, stop_of-last_end}

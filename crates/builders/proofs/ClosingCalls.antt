@@ -1,20 +1,22 @@
 -- Open calls that are closed, that get an item more, or whose stakes are given back.
-use Rattle.std.proofs.Common.{◌≡◌, ℕ, ◌+◌, ◌-◌, ◌<◌, ◌≤◌, max, List, [], ◌∷◌, ◌++◌, map, length, drop, Option}
+use Rattle.std.proofs.Common.{◌≡◌, ℕ, ◌+◌, ◌<◌, ◌≤◌, max, List, [], ◌∷◌, ◌++◌, map, length, drop, Option}
 use Rattle.std.proofs.Common.{Ok, All, sym, ap, subst, arith, ◌∙◌, get_or}
-use Rattle.std.proofs.lemmas.List.Elements.{All-weaker}
 use Rattle.std.proofs.lemmas.List.{map-append}
+use Rattle.list_lemmas.proofs.Maps.{map_next}
 use Rattle.node_key.specs.Bound.{bound}
 use Rattle.node_key.specs.Items.{FitBetween, node}
-use Rattle.node_key.specs.Seat.{ExchangesStakes, Seat}
+use Rattle.hall_history.specs.Seat.{ExchangesStakes, Seat}
 use Rattle.node_key.specs.Stakes.{HasStakes, stake}
 use Rattle.node_key.specs.declared.stake.Stake.{Stake}
 use Rattle.node_key.specs.Tree.{height}
 use Rattle.node_key.specs.declared.item.Item.{Item}
-use Rattle.node_key.specs.declared.limits.TheConstants.{HEIGHT_BOUND, MAX_HEIGHT, MAX_KIDS}
+use Rattle.node_key.specs.declared.limits.TheConstants.{HEIGHT_BOUND}
 use Rattle.trace_base.specs.declared.limits.TheConstants.{MAX_TIME}
+use Rattle.trace_base.proofs.Telling.{told_then}
 use Rattle.call_tree.specs.Passing.{closed_item}
-use Rattle.call_tree.proofs.Chunks.{length-grouped}
-use Rattle.call_tree.proofs.Fits.{FitBetween-bound, FitBetween-lower, FitBetween-upper, Low-bound, by_bound}
+use Rattle.call_tree.proofs.Fits.{FitBetween-bound, FitBetween-lower, FitBetween-upper}
+use Rattle.call_tree.proofs.Fits.{low_bound}
+use Rattle.call_tree.proofs.TreeBounds.{some_bound}
 use Rattle.builders.specs.Built.{StoredItem, items_in, stake_on, stakes_held}
 use Rattle.builders.specs.Builds.{AddsWorkUpTo, BuildsItem, BuildsItems, Holds, HoldsBetween, MayBeBound}
 use Rattle.builders.specs.Builds.{WorkPaidBy}
@@ -23,10 +25,8 @@ use Rattle.builders.specs.declared.built.BuiltItem.{BuiltItem}
 use Rattle.builders.specs.declared.built.OpenCall.{OpenCall}
 use Rattle.builders.proofs.Bags.{exchanges-among, exchanges-then, has-among, has-given}
 use Rattle.builders.proofs.ChunkGroups.{length-items}
-use Rattle.builders.proofs.Counts.{told_then}
 use Rattle.std.proofs.Common.{◌⊎◌, inl, inr}
 use Rattle.std.proofs.lemmas.Bool.{cases_lt}
-use Rattle.builders.proofs.Interning.{next_of}
 
 -- ---- a call that is closed
 
@@ -39,14 +39,6 @@ call-bound seat innermost stop call h = record {
       (FitBetween-upper call.start stop MAX_TIME (items_in call.stored) h.can.in_time h.can.placed);
   low = h.can.low;
 }
-
-low_bound : (is : List Item) → All (λ (i : Item). height i.tree ≤ MAX_HEIGHT - MAX_KIDS) is
-    → length is ≤ 4194304 → All (λ (i : Item). height i.tree < HEIGHT_BOUND) (bound is)
-low_bound is low few =
-    All-weaker (λ (i : Item). height i.tree + 0 ≤ 2047) (λ (i : Item). height i.tree < HEIGHT_BOUND)
-    (λ i h. omega arith) (bound is) (Low-bound 7 0 2047 is (omega (arith, few))
-    (All-weaker (λ (i : Item). height i.tree ≤ MAX_HEIGHT - MAX_KIDS) (λ (i : Item). height i.tree
-    + (0 + 7) ≤ 2047) (λ i h. omega arith) is low))
 
 -- its bounded items may be put into its node
 pub held-bounded : (old now : Seat) (innermost : OpenCall) (stop : ℕ) (call : StoredCall)
@@ -97,12 +89,6 @@ bounded-held old now after innermost stop call bounded slice h e b kept = record
       (has-given old now (stakes_held call.stored) (stakes_held b.0) h.stakes b.3) kept;
 }
 
--- a list that has items still has some when it is bounded
-length-bound-some : (is : List Item) → 0 < length is → 0 < length (bound is)
-length-bound-some is some =
-    by_bound (λ is. 0 < length is) (λ is h. omega (arith, h, length-grouped is)) (length is) is (omega arith)
-    some
-
 pub some-bounded : (old now : Seat) (innermost : OpenCall) (stop : ℕ) (call : StoredCall)
     (bounded : List BuiltItem) → HoldsCall old innermost stop call
     → (b : BuildsItems old now (stakes_held call.stored) (bound (items_in call.stored)) [] (Ok bounded))
@@ -112,7 +98,7 @@ some-bounded old now innermost stop call bounded h b some =
       arith,
       length-items bounded b.0 b.1,
       ap length b.2,
-      length-bound-some (items_in call.stored)
+      some_bound (items_in call.stored)
           (omega (
             arith,
             some,
@@ -184,7 +170,7 @@ pub CallsReleasing-next : (old now : Seat) (calls : List OpenCall) (i : ℕ) (d 
     × ((new : Seat) → ExchangesStakes now new (stakes_held items) []
     → ExchangesStakes old new (calls_stakes stored) (calls_stakes (drop (i + 1) stored)))
 CallsReleasing-next old now calls i d slice r within is stored e h =
-    let here = next_of open_call stored i d (subst (λ (cs : List OpenCall). i < length cs) e within) in
+    let here = map_next open_call stored i d (subst (λ (cs : List OpenCall). i < length cs) e within) in
     let rest = calls_stakes (drop (i + 1) stored) in
     let so_far = subst (λ (cs : List StoredCall). ExchangesStakes old now (calls_stakes stored)
     (calls_stakes cs))

@@ -1,24 +1,24 @@
 -- Items under way to their groups, in one list: the groups at its front, and the items that are left behind.
 use Rattle.std.proofs.Common.{◌≡◌, ℕ, ◌+◌, ◌-◌, ◌<◌, ◌≤◌, min, List, [], ◌∷◌, ◌++◌, map, length, take, drop}
-use Rattle.std.proofs.Common.{Option, refl, sym, ap, subst, arith, set, ◌∙◌, append-nil, append_assoc, inl}
-use Rattle.std.proofs.Common.{inr, take-append-drop, take_all, Some, None, Ok}
+use Rattle.std.proofs.Common.{Option, refl, sym, ap, subst, arith, set, ◌∙◌, append-nil, append_assoc}
+use Rattle.std.proofs.Common.{take-append-drop, Some, None, Ok}
 use Rattle.std.proofs.lemmas.List.{length-set}
-use Rattle.std.proofs.lemmas.Bool.{cases_lt}
-use Rattle.std.proofs.lemmas.List.{drop-drop, drop-map, drop-set-lt, drop_all, length-drop, length-map}
+use Rattle.std.proofs.lemmas.List.{drop-drop, drop-map, drop-set-lt, length-drop, length-map}
 use Rattle.std.proofs.lemmas.List.{length-take, map-append, take-map, take_more_set, nil_from_length}
+use Rattle.list_lemmas.proofs.Fronts.{drop_within, take_within}
 use Rattle.node_key.specs.Bound.{group, grouped}
-use Rattle.node_key.specs.Seat.{ExchangesStakes, Seat}
+use Rattle.hall_history.specs.Seat.{ExchangesStakes, Seat}
 use Rattle.node_key.specs.Stakes.{HasStakes, stake}
 use Rattle.node_key.specs.declared.stake.Stake.{Stake}
 use Rattle.node_key.specs.declared.item.Item.{Item}
 use Rattle.trace_base.specs.Outside.{Told}
 use Rattle.trace_base.specs.declared.limits.TheConstants.{MAX_TIME}
+use Rattle.trace_base.proofs.Telling.{told_then}
 use Rattle.call_tree.proofs.Chunks.{grouped-none}
 use Rattle.call_tree.proofs.Grouping.{Grouping, Grouping-more, Grouping-next}
 use Rattle.builders.specs.Built.{StoredItem, built, items_in, stake_on, stakes_held}
 use Rattle.builders.specs.Builds.{BuildsItem, BuildsItems, Holds, HoldsBetween, WorkPaidBy}
 use Rattle.builders.specs.declared.built.BuiltItem.{BuiltItem}
-use Rattle.builders.proofs.Counts.{told_then}
 use Rattle.builders.proofs.Bags.{exchanges-among, exchanges-none, exchanges-then, has-among, has-given}
 
 -- the groups, which are built, and the items that are left
@@ -75,21 +75,6 @@ GroupingItems-start old work items list number e n = record {
 
 -- ---- the next chunk
 
--- the first 8 of the items that are left, or all of them
-take_eight : {X : Type 0} (xs : List X) → take (min 8 (length xs)) xs ≡ take 8 xs
-take_eight xs =
-    elim (cases_lt 8 (length xs)) [
-      | inl more ↦ ap (λ (n : ℕ). take n xs) (let n : min 8 (length xs) ≡ 8 = omega arith in n)
-      | inr few ↦ take_all (min 8 (length xs)) xs (omega arith) ∙ sym (take_all 8 xs few)
-    ]
-
-drop_eight : {X : Type 0} (xs : List X) → drop (min 8 (length xs)) xs ≡ drop 8 xs
-drop_eight xs =
-    elim (cases_lt 8 (length xs)) [
-      | inl more ↦ ap (λ (n : ℕ). drop n xs) (let n : min 8 (length xs) ≡ 8 = omega arith in n)
-      | inr few ↦ drop_all (min 8 (length xs)) xs (omega arith) ∙ sym (drop_all 8 xs few)
-    ]
-
 pub chunk_is : (list : List BuiltItem) (number from until : ℕ) → length list ≡ number
     → until ≡ from + min 8 (number - from) → from ≤ number
     → take (until - from) (drop from list) ≡ take 8 (drop from list)
@@ -97,7 +82,7 @@ chunk_is list number from until n e h =
     ap (λ (m : ℕ). take m (drop from list))
     (let m : until - from ≡ min 8 (length (drop from list)) = omega (arith, e, n, h, length-drop from list) in
     m)
-    ∙ take_eight (drop from list)
+    ∙ take_within 8 (drop from list)
 
 rest_is : (list : List BuiltItem) (number from until : ℕ) → length list ≡ number
     → until ≡ from + min 8 (number - from) → from ≤ number
@@ -106,7 +91,7 @@ rest_is list number from until n e h =
     ap (λ (m : ℕ). drop m list) (let m : until ≡ from + min 8 (length (drop from list)) =
     omega (arith, e, n, h, length-drop from list) in m)
     ∙ sym (drop-drop (min 8 (length (drop from list))) from list)
-    ∙ drop_eight (drop from list)
+    ∙ drop_within 8 (drop from list)
 
 -- the stakes on the chunk and on the items behind it
 stakes_cut : (left : List StoredItem) → stakes_held left ≡ stakes_held (take 8 left) ++ stakes_held

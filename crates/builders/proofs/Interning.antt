@@ -1,9 +1,10 @@
 -- What interning and releasing does to stakes on items.
-use Rattle.std.proofs.Common.{◌≡◌, ℕ, ◌+◌, ◌-◌, ◌<◌, ◌⊎◌, inl, inr, List, [], ◌∷◌, map, All, drop, zero, suc}
-use Rattle.std.proofs.Common.{Option, Ok, Err, refl, sym, ap, subst, arith, get_or, length, ◌∙◌}
+use Rattle.std.proofs.Common.{◌≡◌, ℕ, ◌+◌, ◌-◌, ◌<◌, ◌⊎◌, inl, inr, List, [], ◌∷◌, map, All, drop}
+use Rattle.std.proofs.Common.{Option, Ok, Err, refl, sym, ap, subst, get_or, length, ◌∙◌}
 use Rattle.std.proofs.lemmas.List.Elements.{All-cons, All-head, All-nil, All-tail}
+use Rattle.list_lemmas.proofs.Maps.{map_next}
 use Rattle.node_key.specs.Items.{node}
-use Rattle.node_key.specs.Seat.{ExchangesStakes, Seat}
+use Rattle.hall_history.specs.Seat.{ExchangesStakes, Seat}
 use Rattle.node_key.specs.Stakes.{HasStakes, IsOverStakes, stake}
 use Rattle.node_key.specs.declared.stake.Stake.{Stake}
 use Rattle.node_key.specs.Tree.{Tree, height}
@@ -85,18 +86,6 @@ abbrev pub Releasing : Seat → Seat → List BuiltItem → ℕ → Type 0
 Releasing old now items i = (stored : List StoredItem) → Holds old items stored
     → ExchangesStakes old now (stakes_held stored) (stakes_held (drop i stored))
 
--- the next of those that are left
-pub next_of : {X Y : Type 0} (f : X → Y) (xs : List X) (i : ℕ) (d : Y) → i < length (map f xs)
-    → (x : X) × (drop i xs ≡ x ∷ drop (i + 1) xs) × (get_or (map f xs) i d ≡ f x)
-next_of f [] i d h = absurd (omega (arith, h))
-next_of f (x ∷ xs) zero d h = (x, refl, refl)
-next_of f (x ∷ xs) (suc i) d h =
-    let more = next_of f xs i d (omega (arith, h)) in (
-      more.0,
-      more.1 ∙ ap (λ (n : ℕ). more.0 ∷ drop n (x ∷ xs)) (let n : suc (i + 1) ≡ suc i + 1 = omega arith in n),
-      more.2,
-    )
-
 pub Releasing-start : (old : Seat) (items : List BuiltItem) → Releasing old old items 0
 Releasing-start old items stored h = exchanges-none old old (stakes_held stored) refl
 
@@ -108,7 +97,7 @@ pub Releasing-next : (old now : Seat) (items : List BuiltItem) (i : ℕ) (d : Bu
     × ((new : Seat) → ExchangesStakes now new (stake (get_or items i d).number t ∷ []) []
     → ExchangesStakes old new (stakes_held stored) (stakes_held (drop (i + 1) stored)))
 Releasing-next old now items i d r within stored h =
-    let here = next_of built stored i d (subst (λ (bs : List BuiltItem). i < length bs) h.are within) in
+    let here = map_next built stored i d (subst (λ (bs : List BuiltItem). i < length bs) h.are within) in
     let number : (get_or items i d).number ≡ here.0.number =
     ap (λ (bs : List BuiltItem). (get_or bs i d).number) h.are ∙ ap (λ (b : BuiltItem). b.number) here.2 in
     let so_far = subst (λ (ss : List StoredItem). ExchangesStakes old now (stakes_held stored)

@@ -1,7 +1,7 @@
 -- The kids of a key under way.
 use Rattle.std.proofs.Common.{◌≡◌, ℕ, ◌+◌, ◌-◌, ◌<◌, ◌≤◌, max, List, [], ◌∷◌, ◌++◌, length, map, take, drop}
-use Rattle.std.proofs.Common.{refl, sym, ap, subst, ◌∙◌, arith, All, get_or, set, append_assoc, append-nil}
-use Rattle.std.proofs.Common.{sum_by, replicate, take-append-drop, suc, drop-cons, ◌↔◌}
+use Rattle.std.proofs.Common.{refl, sym, ap, subst, ◌∙◌, arith, All, set, append_assoc, append-nil}
+use Rattle.std.proofs.Common.{sum_by, replicate, take-append-drop, suc, ◌↔◌}
 use Rattle.std.proofs.lemmas.List.{drop-set-lt, take_more_set, drop_all, drop-drop, drop-replicate}
 use Rattle.std.proofs.lemmas.List.Sums.{sum_by-append, sum_by-cons}
 use Rattle.std.proofs.lemmas.List.Folds.{sum_by-replicate}
@@ -196,10 +196,3 @@ key-stored func start end all stored key is-func is-dur is-len f e =
       };
       kids = trees-stored start stored ∙ ap (map (λ b. b.tree)) (sym (branches-kids_of bs));
     }
-
--- the next item of those that are left
-pub next_item : (all : List BuiltItem) (i : ℕ) (d : BuiltItem) → i < length all
-    → drop i all ≡ get_or all i d ∷ drop (i + 1) all
-next_item all i d h =
-    drop-cons all i d h ∙ ap (λ (n : ℕ). get_or all i d ∷ drop n all)
-    (let n : suc i ≡ i + 1 = omega arith in n)

@@ -4,7 +4,6 @@ pub mod Bags
 pub mod Interning
 pub mod ChunkGroups
 pub mod GroupingItems
-pub mod Counts
 pub mod BoundingItems
 pub mod ClosingCalls
 pub mod PassingCalls

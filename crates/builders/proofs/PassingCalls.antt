@@ -1,15 +1,17 @@
 -- Open calls whose items are built, over one event more.
-use Rattle.std.proofs.Common.{◌≡◌, ℕ, ◌+◌, ◌≤◌, max, List, [], ◌∷◌, ◌++◌, map, length, drop, Option, Ok, Err}
-use Rattle.std.proofs.Common.{Result, refl, sym, ap, subst, arith, ◌∙◌, get_or, append-nil, append_assoc}
+use Rattle.std.proofs.Common.{◌≡◌, ℕ, ◌+◌, ◌≤◌, max, List, [], ◌∷◌, ◌++◌, map, length, Option, Ok, Err}
+use Rattle.std.proofs.Common.{Result, refl, sym, ap, subst, arith, ◌∙◌, append-nil, append_assoc}
 use Rattle.std.proofs.Common.{length-append}
 use Rattle.std.proofs.lemmas.Grind.{flat_map-append}
 use Rattle.std.proofs.lemmas.List.{map-append, length-map}
 use Rattle.std.proofs.lemmas.List.Sums.{sum_by-append}
-use Rattle.node_key.specs.Seat.{ExchangesStakes, Seat}
+use Rattle.list_lemmas.proofs.Maps.{map_last}
+use Rattle.hall_history.specs.Seat.{ExchangesStakes, Seat}
 use Rattle.node_key.specs.declared.stake.Stake.{Stake}
 use Rattle.node_key.specs.declared.item.Item.{Item}
 use Rattle.trace_base.specs.declared.stream.Event.{Event}
 use Rattle.trace_base.specs.declared.stream.Event.TheVariants.{Enter, Leave}
+use Rattle.trace_base.proofs.Telling.{told_as}
 use Rattle.call_tree.specs.Passing.{closed_item}
 use Rattle.call_tree.specs.declared.pass.Open.{Open}
 use Rattle.hall_trait.specs.declared.answers.HallFault.{HallFault}
@@ -21,7 +23,6 @@ use Rattle.builders.specs.Calls.{with_stored}
 use Rattle.builders.specs.declared.built.BuiltItem.{BuiltItem}
 use Rattle.builders.specs.declared.built.OpenCall.{OpenCall}
 use Rattle.builders.proofs.Bags.{exchanges-last, exchanges-none, exchanges-then, has-given, has-last}
-use Rattle.builders.proofs.Counts.{told_as}
 
 -- the stakes of one call more
 calls_stakes-more : (calls : List StoredCall) (call : StoredCall)
@@ -86,23 +87,6 @@ leave-closes old around innermost u calls call h = record {
   stakes = has-last old.stakes (calls_stakes calls) (stakes_held call.stored) h.stakes;
 }
 
--- a list of images whose last is known
-last_of : {X Y : Type 0} (f : X → Y) (xs : List X) (ys : List Y) (y : Y) → map f xs ≡ ys ++ y ∷ []
-    → (front : List X) × (x : X) × (xs ≡ front ++ x ∷ []) × (ys ≡ map f front) × (y ≡ f x)
-last_of f [] [] y e = absurd (omega (arith, ap length e))
-last_of f [] (z ∷ zs) y e = absurd (omega (arith, ap length e))
-last_of {X} {Y} f (x ∷ []) [] y e = ([], x, refl, refl, sym (ap (λ (l : List Y). get_or l 0 y) e))
-last_of {X} {Y} f (x ∷ xs) (z ∷ zs) y e =
-    let more = last_of f xs zs y (ap (λ (l : List Y). drop 1 l) e) in (
-      x ∷ more.0,
-      more.1,
-      ap (λ (l : List X). x ∷ l) more.2,
-      ap (λ (w : Y). w ∷ zs) (sym (ap (λ (l : List Y). get_or l 0 y) e)) ∙ ap (λ (l : List Y). f x ∷ l)
-          more.3,
-      more.4,
-    )
-last_of f (x ∷ w ∷ xs) [] y e = absurd (omega (arith, ap length e))
-
 -- what is there when the innermost call was closed, and the call round it was taken
 pub record Left (old now : Seat) (around' : List OpenCall) (outer : OpenCall) (item : BuiltItem) (u : ℕ)
     (calls : List StoredCall) (call : StoredCall) : Type 0 where
@@ -124,7 +108,7 @@ pub left-by : (old now : Seat) (around around' : List OpenCall) (innermost outer
     → BuildsItem old now (stakes_held call.stored) (closed_item (passed call) u) [] (Ok item)
     → Left old now around' outer item u calls call
 left-by old now around around' innermost outer item u calls call h e b =
-    let last = last_of open_call calls around' outer (sym h.around_are ∙ e) in
+    let last = map_last open_call calls around' outer (sym h.around_are ∙ e) in
     let one : StoredItem = record { item = closed_item (passed call) u; number = b.0 } in
     let given : calls_stakes calls ++ stake_on one ∷ []
     ≡ calls_stakes last.0 ++ stakes_held (last.1.stored ++ one ∷ []) =

@@ -2,8 +2,8 @@
 use Rattle.std.proofs.Common.{◌≡◌, ℕ, ◌+◌, ◌≤◌, List, [], ◌++◌, Option, None, Some, option_map, sym, ap}
 use Rattle.std.proofs.Common.{subst, ◌∙◌, arith}
 use Rattle.node_key.specs.Events.{events}
-use Rattle.node_key.specs.History.{Entry, FitsTrack, IsTrackTree, PublishedTree, published_of, stream_of}
-use Rattle.node_key.specs.History.{stream_published}
+use Rattle.hall_history.specs.History.{Entry, FitsTrack, IsTrackTree, PublishedTree, published_of, stream_of}
+use Rattle.hall_history.specs.History.{stream_published}
 use Rattle.node_key.specs.Tree.{Tree}
 use Rattle.node_key.specs.declared.key.NodeKey.{NodeKey}
 use Rattle.trace_base.specs.declared.limits.TheConstants.{MAX_TIME}

@@ -7,7 +7,7 @@ ghost use Rattle.builders.specs.Calls.{AddsItem, HoldsCall, HoldsWith, StoredCal
 ghost use Rattle.builders.specs.Calls.{passed};
 ghost use Rattle.call_tree.specs.Passing.{closed_item};
 ghost use Rattle.hall_trait.specs.Answers.{AddsNoWork, RecordsNone};
-ghost use Rattle.node_key.specs.Seat.{ExchangesStakes};
+ghost use Rattle.hall_history.specs.Seat.{ExchangesStakes};
 ghost use Rattle.node_key.specs.Stakes.{HasStakes};
 
 use crate::built::{BuiltItem, OpenCall};

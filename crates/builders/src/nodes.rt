@@ -5,7 +5,7 @@ ghost use Rattle.builders.specs.Built.{StoredItem, items_in, stakes_held};
 ghost use Rattle.builders.specs.Builds.{AddsWorkUpTo, BuildRecords, BuildsItem, Holds, HoldsBetween};
 ghost use Rattle.hall_trait.specs.Answers.{AddsNoWork, RecordsNone};
 ghost use Rattle.node_key.specs.Items.{node};
-ghost use Rattle.node_key.specs.Seat.{ExchangesStakes};
+ghost use Rattle.hall_history.specs.Seat.{ExchangesStakes};
 ghost use Rattle.std.specs.Prelude.{◌⊎◌};
 ghost use Rattle.shard_core.specs.declared.answers.Interned.TheVariants.{Known, New};
 

@@ -4,7 +4,7 @@ ghost use Rattle.hall_trait.specs.Answers.{AddsNoWork, NextsRise, RecordsNone};
 ghost use Rattle.hall_trait.specs.Nodes.{ReadsNode};
 ghost use Rattle.hall_trait.specs.Pin.{first_id, pin_view};
 ghost use Rattle.node_key.specs.Events.{events};
-ghost use Rattle.node_key.specs.History.{FitsTrack, stream_of};
+ghost use Rattle.hall_history.specs.History.{FitsTrack, stream_of};
 ghost use Rattle.node_key.specs.Tree.{Tree};
 
 use hall_trait::{Hall, Pin, Published};

@@ -4,6 +4,7 @@ use Rattle.std.proofs.Common.{ap, subst, ◌∙◌, arith}
 use Rattle.std.proofs.Common.{Option, Some, None, slice_get, option_map, append_assoc, append-nil, Bool, true}
 use Rattle.std.proofs.Common.{false, cond, eqb}
 use Rattle.std.proofs.lemmas.List.{drop_all}
+use Rattle.std.proofs.lemmas.Option.{none-some}
 use Rattle.node_key.specs.Tree.{Tree, Kids, no_kids, kid, count, total, nodes, nodes_below}
 use Rattle.node_key.specs.Branches.{branches}
 use Rattle.node_key.specs.declared.tree.Branch.{Branch}
@@ -55,13 +56,10 @@ drop-branch (x ∷ xs) (suc i) b e =
     drop-branch xs i b e ∙ ap (λ (n : ℕ). b ∷ drop n (x ∷ xs)) (let n : suc (i + 1) ≡ suc i + 1 = omega arith
     in n)
 
-none_some : {X : Type 0} {x : X} → None ≡ Some x → ⊥
-none_some e = cc
-
 -- a branch has fewer nodes than the tree
 pub nodes-branch : (k : Kids) (i : ℕ) (b : Branch) → slice_get (branches k) i ≡ Some b
     → nodes b.tree ≤ nodes_below k
-nodes-branch no_kids i b e = absurd (none_some e)
+nodes-branch no_kids i b e = absurd (none-some _ e)
 nodes-branch (kid gap func dur inner more) zero b e =
     let same : record { gap = gap; tree = record { func = func; dur = dur; kids = inner } } ≡ b = cc
     in omega (arith, ap (λ (b : Branch). nodes b.tree) same)

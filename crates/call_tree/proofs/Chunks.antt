@@ -2,13 +2,13 @@
 use Rattle.std.proofs.Common.{◌≡◌, ℕ, ◌+◌, ◌*◌, ◌/◌, ◌<◌, ◌≤◌, zero, suc, List, [], ◌∷◌, ◌++◌, length}
 use Rattle.std.proofs.Common.{take, drop, map, refl}
 use Rattle.std.proofs.Common.{sym, ap, ◌∙◌, arith, length-drop, append-nil, cond, inl, inr, Bool}
-use Rattle.std.proofs.Common.{false, leb, get_or, take_all}
+use Rattle.std.proofs.Common.{get_or, take_all}
 use Rattle.std.proofs.lemmas.List.{drop-drop, drop_all, length-map}
 use Rattle.std.proofs.Math.Seq.{take-append_seam, drop-append_seam}
 use Rattle.std.proofs.lemmas.List.FromFn.{length-map-range_with_len}
 use Rattle.std.proofs.lemmas.Bool.{cases_lt, le-leb}
-use Rattle.std.proofs.lemmas.Bool.Decides.{leb_tells}
 use Rattle.std.specs.List.{range_with_len}
+use Rattle.std.proofs.lemmas.Bool.{lt-leb}
 use Rattle.node_key.specs.Bound.{chunks, group, grouped, bound_within, bound, stop_of}
 use Rattle.node_key.specs.Items.{end_of}
 use Rattle.node_key.specs.declared.item.Item.{Item}
@@ -57,9 +57,6 @@ by_chunks P none some zero (i ∷ is) h = absurd (omega arith)
 by_chunks P none some (suc n) (i ∷ is) h =
     some (i ∷ is) (omega arith) (by_chunks P none some n (drop 8 (i ∷ is))
     (omega (arith, length-drop 8 (i ∷ is))))
-
-lt-leb : (m n : ℕ) → n < m → leb m n ≡ false
-lt-leb m n h = elim (leb_tells m n) [ inl p ↦ absurd (omega (arith, p.1)) | inr p ↦ p.0 ]
 
 -- whether a list is grouped once more
 kept : (n : ℕ) (is : List Item) → length is ≤ 8 → bound_within (suc n) is ≡ is

@@ -14,6 +14,8 @@ use Rattle.node_key.proofs.Kids.{FitBetween-le}
 use Rattle.node_key.specs.Bound.{group, grouped, bound, start_of, stop_of}
 use Rattle.call_tree.proofs.Chunks.{grouped-some, grouped-none, length-grouped, by_chunks, bound-few}
 use Rattle.call_tree.proofs.Chunks.{bound-more}
+use Rattle.std.proofs.Common.{◌-◌}
+use Rattle.node_key.specs.declared.limits.TheConstants.{HEIGHT_BOUND, MAX_HEIGHT, MAX_KIDS}
 
 -- when the last item ends, or the time before the items where there is none
 abbrev pub last_end : ℕ → List Item → ℕ
@@ -185,3 +187,11 @@ length-bound-le (suc n) is few =
       )
       | inr short ↦ omega (arith, ap length (bound-few is short))
     ]
+
+pub low_bound : (is : List Item) → All (λ (i : Item). height i.tree ≤ MAX_HEIGHT - MAX_KIDS) is
+    → length is ≤ 4194304 → All (λ (i : Item). height i.tree < HEIGHT_BOUND) (bound is)
+low_bound is low few =
+    All-weaker (λ (i : Item). height i.tree + 0 ≤ 2047) (λ (i : Item). height i.tree < HEIGHT_BOUND)
+    (λ i h. omega arith) (bound is) (Low-bound 7 0 2047 is (omega (arith, few))
+    (All-weaker (λ (i : Item). height i.tree ≤ MAX_HEIGHT - MAX_KIDS) (λ (i : Item). height i.tree
+    + (0 + 7) ≤ 2047) (λ i h. omega arith) is low))

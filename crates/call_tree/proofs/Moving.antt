@@ -2,11 +2,14 @@
 use Rattle.std.proofs.Common.{◌≡◌, ℕ, ◌+◌, ◌-◌, ◌<◌, ◌≤◌, zero, suc, List, [], ◌∷◌, ◌++◌, length}
 use Rattle.std.proofs.Common.{take, drop, map, refl, sym, ap, subst}
 use Rattle.std.proofs.Common.{◌∙◌, arith, length-take, Bool, true}
-use Rattle.std.proofs.Common.{false, cond, eqb, inl, inr, fold, filter, Some, None, slice_get, Option, get_or}
+use Rattle.std.proofs.Common.{false, cond, eqb, inl, inr, fold, filter, Some, slice_get, Option}
 use Rattle.std.proofs.Common.{◌^◌}
 use Rattle.std.proofs.lemmas.Bool.{cases_lt}
 use Rattle.std.proofs.lemmas.List.{length-map}
 use Rattle.std.specs.List.Sorted.{IsNonDecreasing}
+use Rattle.std.proofs.lemmas.List.{map-append}
+use Rattle.std.proofs.lemmas.Option.{none-some}
+use Rattle.list_lemmas.proofs.InOrder.{IsNonDecreasing-map_plus}
 use Rattle.trace_base.specs.Stream.{time_of, is_enter, stack_step, stack_after, IsLegal}
 use Rattle.trace_base.specs.declared.stream.Event.{Event}
 use Rattle.trace_base.specs.declared.stream.Event.TheVariants.{Enter, Leave}
@@ -22,10 +25,6 @@ use Rattle.call_tree.specs.Laws.{moved, since}
 use Rattle.call_tree.proofs.Chunks.{grouped-some, grouped-none, length-grouped, by_chunks, bound-few}
 use Rattle.call_tree.proofs.Chunks.{bound-more}
 use Rattle.call_tree.proofs.Forest.{Forest, none, call, flat, items_of}
-
-map-append : {X Y : Type 0} (f : X → Y) (xs ys : List X) → map f (xs ++ ys) ≡ map f xs ++ map f ys
-map-append f [] ys = refl
-map-append f (x ∷ xs) ys = ap (λ l. f x ∷ l) (map-append f xs ys)
 
 enclosed-moved : (group : Bool) (func start end a : ℕ) (es : List Event)
     → cond group (map (moved a) es) (Enter func (start + a) ∷ map (moved a) es ++ Leave (end + a) ∷ [])
@@ -229,9 +228,6 @@ front-moved : (a i : ℕ) (es : List Event) → fold stack_step [] (take i (map 
 front-moved a i es = ap (λ (l : List Event). fold stack_step [] l) (take-moved a i es) ∙ stack-moved a
     (take i es) []
 
-none_some : {X : Type 0} {x : X} → None ≡ Some x → ⊥
-none_some e = cc
-
 enter_leave : {f t u : ℕ} → Some (Enter f t) ≡ Some (Leave u) → ⊥
 enter_leave e = cc
 
@@ -240,7 +236,7 @@ leave_enter e = cc
 
 slice_moved : (a i : ℕ) (es : List Event) (e : Event) → slice_get es i ≡ Some e
     → slice_get (map (moved a) es) i ≡ Some (moved a e)
-slice_moved a i [] e h = absurd (none_some h)
+slice_moved a i [] e h = absurd (none-some _ h)
 slice_moved a zero (x ∷ xs) e h = ap (λ (y : Event). let o : Option Event = Some (moved a y) in o)
     (let same : x ≡ e = cc in same)
 slice_moved a (suc i) (x ∷ xs) e h = slice_moved a i xs e h
@@ -248,14 +244,14 @@ slice_moved a (suc i) (x ∷ xs) e h = slice_moved a i xs e h
 -- which event a moved one comes from
 leave-moved : (a i t : ℕ) (es : List Event) → slice_get (map (moved a) es) i ≡ Some (Leave t) → (u : ℕ)
     × (slice_get es i ≡ Some (Leave u))
-leave-moved a i t [] e = absurd (none_some e)
+leave-moved a i t [] e = absurd (none-some _ e)
 leave-moved a zero t (Enter f u ∷ es) e = absurd (enter_leave e)
 leave-moved a zero t (Leave u ∷ es) e = (u, refl)
 leave-moved a (suc i) t (e' ∷ es) e = leave-moved a i t es e
 
 enter-moved : (a i f t : ℕ) (es : List Event) → slice_get (map (moved a) es) i ≡ Some (Enter f t) → (u : ℕ)
     × (slice_get es i ≡ Some (Enter f u))
-enter-moved a i f t [] e = absurd (none_some e)
+enter-moved a i f t [] e = absurd (none-some _ e)
 enter-moved a zero f t (Enter g u ∷ es) e =
     (u, ap (λ (n : ℕ). let o : Option Event = Some (Enter n u) in o) (let same : g ≡ f = cc in same))
 enter-moved a zero f t (Leave u ∷ es) e = absurd (leave_enter e)
@@ -281,25 +277,6 @@ moments-moved a dur es =
     times (Enter f t ∷ es) = ap (λ (l : List ℕ). (t + a) ∷ l) (times es)
     times (Leave t ∷ es) = ap (λ (l : List ℕ). (t + a) ∷ l) (times es)
 
-at_moved : (a i d : ℕ) (xs : List ℕ) → i < length xs → get_or (map (λ n. n + a) xs) i d ≡ get_or xs i d + a
-at_moved a i d [] h = absurd (omega arith)
-at_moved a zero d (x ∷ xs) h = refl
-at_moved a (suc i) d (x ∷ xs) h = at_moved a i d xs (omega arith)
-
-order-moved : (a b : ℕ) (xs : List ℕ) → IsNonDecreasing (map (λ n. n + a) xs)
-    → IsNonDecreasing (map (λ n. n + b) xs)
-order-moved a b xs h i j d low high =
-    let short : j < length xs = omega (arith, high, length-map xs (λ (n : ℕ). n + b)) in
-    let here = h i j d low (omega (arith, short, length-map xs (λ (n : ℕ). n + a))) in
-    omega (
-      arith,
-      at_moved a i d xs (omega (arith, short, low)),
-      at_moved a j d xs short,
-      at_moved b i d xs (omega (arith, short, low)),
-      at_moved b j d xs short,
-      here,
-    )
-
 -- a legal stream stays one when it is moved to another start
 pub IsLegal-moved : (s u : TrackStream) (dur : ℕ) (es : List Event) → IsLegal s
     → s.events ≡ map (moved s.start) es → s.end ≡ dur + s.start
@@ -322,7 +299,7 @@ IsLegal-moved s u dur es legal e n f m h =
     record {
       in_time = h;
       in_order = subst IsNonDecreasing (sym times_u)
-          (order-moved s.start u.start (0 ∷ map time_of es ++ dur ∷ [])
+          (IsNonDecreasing-map_plus s.start u.start (0 ∷ map time_of es ++ dur ∷ [])
           (subst IsNonDecreasing times_s legal.in_order));
       closes_open = λ i t k. (let was = leave-moved u.start i t es
           (subst (λ (l : List Event). slice_get l i ≡ Some (Leave t)) f k) in

@@ -4,6 +4,7 @@ use Rattle.std.proofs.Common.{map, refl, sym, ap}
 use Rattle.std.proofs.Common.{subst, ◌∙◌, arith, append_assoc, length-append, length-take, Some}
 use Rattle.std.proofs.Common.{slice_get, filter, fold}
 use Rattle.std.specs.List.Sorted.{IsNonDecreasing}
+use Rattle.list_lemmas.proofs.Fronts.{nonempty}
 use Rattle.trace_base.specs.Stream.{time_of, is_enter, stack_step, stack_after, IsLegal}
 use Rattle.trace_base.specs.declared.stream.Event.{Event}
 use Rattle.trace_base.specs.declared.stream.Event.TheVariants.{Enter, Leave}
@@ -37,10 +38,6 @@ going_on stack now end e es g = record {
 in_order : (stack : List ℕ) (now end : ℕ) (e : Event) (es : List Event) → Going stack now end (e ∷ es)
     → now ≤ time_of e
 in_order stack now end e es g = g.order 0 1 0 (omega arith) (omega arith)
-
-nonempty : (stack : List ℕ) → stack ≢ [] → 0 < length stack
-nonempty [] h = absurd (h refl)
-nonempty (x ∷ xs) h = omega arith
 
 pub fine : (es : List Event) (stack : List ℕ) (now end : ℕ) → Going stack now end es
     → Fine (length stack) now end es

@@ -1,9 +1,8 @@
 -- A pass over the events of a legal stream under way: the calls that are open, what lies in each, and what is
 -- left.
 use Rattle.std.proofs.Common.{◌≡◌, ℕ, ◌+◌, ◌-◌, ◌*◌, ◌<◌, ◌≤◌, suc, List, [], ◌∷◌, ◌++◌, length}
-use Rattle.std.proofs.Common.{drop, refl, sym, ap, subst}
-use Rattle.std.proofs.Common.{◌∙◌, arith, append_assoc, append-nil, length-append, reverse, get_or}
-use Rattle.std.proofs.Common.{drop-cons}
+use Rattle.std.proofs.Common.{refl, sym, ap, subst}
+use Rattle.std.proofs.Common.{◌∙◌, arith, append_assoc, append-nil, length-append, reverse}
 use Rattle.std.proofs.lemmas.List.{reverse-append, length-reverse}
 use Rattle.std.proofs.lemmas.List.Elements.{All-weaker, All-push}
 use Rattle.trace_base.specs.declared.stream.Event.{Event}
@@ -262,9 +261,3 @@ Passing-step s around around' innermost now (Leave u) rest p steps =
     subst (λ (o : Open). Passing s (reverse around') o rest) (sym steps.2)
     (Passing-leave s steps.0 (reverse around') innermost u rest
     (subst (λ (os : List Open). Passing s os innermost (Leave u ∷ rest)) turned p))
-
--- the next event of those that are left
-pub next_event : (es : List Event) (i : ℕ) (d : Event) → i < length es → drop i es ≡ get_or es i d
-    ∷ drop (i + 1) es
-next_event es i d h =
-    drop-cons es i d h ∙ ap (λ (n : ℕ). get_or es i d ∷ drop n es) (let n : suc i ≡ i + 1 = omega arith in n)

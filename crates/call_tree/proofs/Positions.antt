@@ -1,17 +1,20 @@
 -- The positions of calls that lie in one another, among other events.
 use Rattle.std.proofs.Common.{◌≡◌, ℕ, ◌+◌, ◌-◌, ◌<◌, ◌≤◌, zero, suc, List, [], ◌∷◌, ◌++◌, length, take, drop}
-use Rattle.std.proofs.Common.{map, refl, sym, ap, subst}
+use Rattle.std.proofs.Common.{map, refl, sym, ap}
 use Rattle.std.proofs.Common.{◌∙◌, arith, append_assoc, append-nil, length-append, Bool, true, false, not}
-use Rattle.std.proofs.Common.{cond, inl, inr, All, eqb, ltb}
-use Rattle.std.proofs.Common.{Option, Some, None, slice_get, option_map, filter, find, eq-eqb, get_or}
+use Rattle.std.proofs.Common.{cond, All, eqb}
+use Rattle.std.proofs.Common.{Option, Some, None, slice_get, option_map, filter, eq-eqb, get_or}
 use Rattle.std.specs.Prelude.{◌&&◌, ◌||◌, nat_lt, slice_index, count_by}
 use Rattle.std.specs.List.{filter_map, list_any, range_with_len, cons_option}
 use Rattle.std.proofs.Math.Seq.{drop-append_seam}
 use Rattle.std.proofs.lemmas.List.{take-append-le}
 use Rattle.std.proofs.lemmas.List.Elements.{All-nil, All-cons, All-head, All-tail, All-append, All-weaker}
 use Rattle.std.proofs.lemmas.List.Elements.{filter_map-append, filter-append}
-use Rattle.std.proofs.lemmas.Bool.{cases_eq}
-use Rattle.std.proofs.lemmas.Bool.Decides.{eqb_tells, leb_tells}
+use Rattle.std.proofs.lemmas.Bool.{le-ltb, lt-ltb}
+use mathlib.Core.Bool.{and-false, or-true}
+use Rattle.list_lemmas.proofs.Filters.{filter_All-every, filter_All-none}
+use Rattle.list_lemmas.proofs.Numbers.{eqb_above}
+use Rattle.list_lemmas.proofs.Ranges.{range_find, range_with_len-parts}
 use Rattle.trace_base.specs.Stream.{is_enter, time_of}
 use Rattle.trace_base.specs.declared.stream.Event.{Event}
 use Rattle.trace_base.specs.declared.stream.Event.TheVariants.{Enter, Leave}
@@ -39,32 +42,6 @@ all_calls p (call f t A u B) =
     record { enter = p; leave = p + 1 + length (flat A) } ∷ all_calls (p + 1) A
     ++ all_calls (p + 1 + length (flat A) + 1) B
 
--- a test is false where the two numbers differ
-not_equal : (a b : ℕ) → a < b → eqb b a ≡ false
-not_equal a b h = elim (eqb_tells b a) [ inl p ↦ absurd (omega (arith, p.1)) | inr p ↦ p.0 ]
-
-not_below : (a b : ℕ) → b ≤ a → ltb a b ≡ false
-not_below a b h = elim (leb_tells (suc a) b) [ inl p ↦ absurd (omega (arith, p.1)) | inr p ↦ p.0 ]
-
-is_below : (a b : ℕ) → a < b → ltb a b ≡ true
-is_below a b h = elim (leb_tells (suc a) b) [ inl p ↦ p.0 | inr p ↦ absurd (omega (arith, p.1)) ]
-
--- the least number of a range that passes
-find_least : (p : ℕ → Bool) (n a j : ℕ) → a ≤ j → j < a + n → p j ≡ true
-    → ((i : ℕ) → a ≤ i → i < j → p i ≡ false)
-    → find p (range_with_len a n) ≡ Some j
-find_least p zero a j low high here before = absurd (omega arith)
-find_least p (suc n) a j low high here before =
-    elim (cases_eq a j) [
-      | inl same ↦ ap (λ (b : Bool). cond b (Some a) (find p (range_with_len (a + 1) n)))
-          (subst (λ (k : ℕ). p k ≡ true) (sym same) here) ∙ ap (λ (k : ℕ). let o : Option ℕ = Some k in o)
-          same
-      | inr other ↦ ap (λ (b : Bool). cond b (Some a) (find p (range_with_len (a + 1) n)))
-          (before a (omega arith) (omega (arith, other)))
-          ∙ find_least p n (a + 1) j (omega (arith, other)) (omega arith) here
-          (λ i l h. before i (omega arith) h)
-    ]
-
 -- how many Enters and Leaves tell
 balanced_is : (es : List Event) → is_balanced es ≡ eqb (enters es) (leaves es)
 balanced_is es = ap (λ (n : ℕ). eqb n (count_by (λ e. not (is_enter e)) es)) (enters-is es) ∙ ap
@@ -78,7 +55,7 @@ open_front f t u i A rest h =
     (Leave u ∷ rest) h in
     balanced_is (Enter f t ∷ take i (flat A ++ Leave u ∷ rest))
     ∙ ap (λ (l : List Event). eqb (enters l + 1) (leaves l)) front
-    ∙ not_equal (leaves (take i (flat A))) (enters (take i (flat A)) + 1) (omega (arith, front_of_flat A i))
+    ∙ eqb_above (leaves (take i (flat A))) (enters (take i (flat A)) + 1) (omega (arith, front_of_flat A i))
 
 -- a call with its Leave
 closed_front : (f t u : ℕ) (A : Forest) (rest : List Event)
@@ -122,7 +99,7 @@ leave_of-call es pre rest f t u p A e n =
     let number : length es ≡ p + 1 + length (flat A) + 1 + length rest =
     omega (arith, ap length e, length-append pre whole, length-append (flat A) (Leave u ∷ rest)) in
     let last : suc (p + 1 + length (flat A) - p) ≡ suc (length (flat A) + 1) = omega arith in
-    find_least (λ j. is_balanced (events_between p j es)) (length es - (p + 1)) (p + 1)
+    range_find (λ j. is_balanced (events_between p j es)) (length es - (p + 1)) (p + 1)
     (p + 1 + length (flat A)) (omega arith)
     (omega (arith, number))
     (ap is_balanced (between es whole p (p + 1 + length (flat A)) behind (omega arith) ∙ ap
@@ -158,17 +135,6 @@ call_at-leave es pre rest u p e n =
     ap (λ (o : Option Event). cond (enters_at o) (option_map found (leave_of es p)) None)
     (slice_here es pre rest (Leave u) p e n)
 
-range_parts : (n m a k : ℕ) → k ≡ n + m → range_with_len a k ≡ range_with_len a n ++ range_with_len (a + n) m
-range_parts zero m a k e =
-    let same : k ≡ m = omega arith in
-    let from : a ≡ a + 0 = omega arith in
-    ap (λ (x : ℕ). range_with_len a x) same ∙ ap (λ (x : ℕ). range_with_len x m) from
-range_parts (suc n) m a zero e = absurd (omega arith)
-range_parts (suc n) m a (suc k) e =
-    let from : a + 1 + n ≡ a + suc n = omega arith in
-    ap (λ (l : List ℕ). a ∷ l) (range_parts n m (a + 1) k (omega arith))
-    ∙ ap (λ (x : ℕ). a ∷ range_with_len (a + 1) n ++ range_with_len x m) from
-
 -- the calls that events of the forest enter
 calls_of_flat : (F : Forest) (es pre post : List Event) (p : ℕ) → es ≡ pre ++ (flat F ++ post)
     → p ≡ length pre
@@ -198,7 +164,7 @@ calls_of_flat (call f t A u B) es pre post p e n =
     )) in
     let left = call_at-leave es (pre ++ Enter f t ∷ flat A) (flat B ++ post) u q at_leave
     (omega (arith, n, length-append pre (Enter f t ∷ flat A))) in
-    let ranges = range_parts (length (flat A)) (suc (length (flat B))) (p + 1)
+    let ranges = range_with_len-parts (length (flat A)) (suc (length (flat B))) (p + 1)
     (length (flat A ++ Leave u ∷ flat B))
     (length-append (flat A) (Leave u ∷ flat B)) in
     ap (λ (o : Option Call). cons_option o
@@ -211,18 +177,6 @@ calls_of_flat (call f t A u B) es pre post p e n =
     ++ cons_option o (filter_map h (range_with_len (q + 1) (length (flat B)))))) left
     ∙ ap (λ (l : List Call). c ∷ (l ++ filter_map h (range_with_len (q + 1) (length (flat B))))) in_a
     ∙ ap (λ (l : List Call). c ∷ (all_calls (p + 1) A ++ l)) in_b
-
-filter_all : {X : Type 0} (p : X → Bool) (xs : List X) → All (λ x. p x ≡ true) xs → filter p xs ≡ xs
-filter_all p [] h = refl
-filter_all p (x ∷ xs) h =
-    ap (λ (b : Bool). cond b (x ∷ filter p xs) (filter p xs)) (All-head (λ y. p y ≡ true) x xs h)
-    ∙ ap (λ l. x ∷ l) (filter_all p xs (All-tail (λ y. p y ≡ true) x xs h))
-
-filter_none : {X : Type 0} (p : X → Bool) (xs : List X) → All (λ x. p x ≡ false) xs → filter p xs ≡ []
-filter_none p [] h = refl
-filter_none p (x ∷ xs) h =
-    ap (λ (b : Bool). cond b (x ∷ filter p xs) (filter p xs)) (All-head (λ y. p y ≡ false) x xs h)
-    ∙ filter_none p xs (All-tail (λ y. p y ≡ false) x xs h)
 
 -- where the calls lie
 abbrev LeftBefore : ℕ → List Call → Type 0
@@ -273,9 +227,9 @@ within_flat F es pre post low high e n m =
     (filter_map (call_at es) (range_with_len low k))) number
     ∙ ap (λ (L : List Call). filter (λ (c : Call). nat_lt c.leave high) L)
     (calls_of_flat F es pre post low e n)
-    ∙ filter_all (λ (c : Call). nat_lt c.leave high) (all_calls low F)
+    ∙ filter_All-every (λ (c : Call). nat_lt c.leave high) (all_calls low F)
     (All-weaker (λ (c : Call). c.leave < low + length (flat F)) (λ (c : Call). nat_lt c.leave high ≡ true)
-    (λ c h. is_below c.leave high (omega arith)) (all_calls low F) (left_before F low))
+    (λ c h. lt-ltb c.leave high (omega arith)) (all_calls low F) (left_before F low))
 
 any_none : (c : Call) (L : List Call) → All (λ d. lies_in c d ≡ false) L → list_any (lies_in c) L ≡ false
 any_none c [] h = refl
@@ -283,29 +237,21 @@ any_none c (d ∷ L) h =
     ap (λ (b : Bool). b || list_any (lies_in c) L) (All-head (λ (d : Call). lies_in c d ≡ false) d L h)
     ∙ any_none c L (All-tail (λ (d : Call). lies_in c d ≡ false) d L h)
 
-or_true : (b : Bool) → (b || true) ≡ true
-or_true true = refl
-or_true false = refl
-
-and_false : (b : Bool) → (b && false) ≡ false
-and_false true = refl
-and_false false = refl
-
 any_found : (c d : Call) (L M : List Call) → lies_in c d ≡ true → list_any (lies_in c) (L ++ d ∷ M) ≡ true
 any_found c d [] M h = ap (λ (b : Bool). b || list_any (lies_in c) M) h
-any_found c d (x ∷ L) M h = ap (λ (b : Bool). lies_in c x || b) (any_found c d L M h) ∙ or_true (lies_in c x)
+any_found c d (x ∷ L) M h = ap (λ (b : Bool). lies_in c x || b) (any_found c d L M h) ∙ or-true (lies_in c x)
 
 -- a call lies in none that begins later, and in none that ended before
 not_in_later : (c d : Call) → c.enter ≤ d.enter → lies_in c d ≡ false
-not_in_later c d h = ap (λ (b : Bool). b && nat_lt c.leave d.leave) (not_below d.enter c.enter h)
+not_in_later c d h = ap (λ (b : Bool). b && nat_lt c.leave d.leave) (le-ltb d.enter c.enter h)
 
 not_in_earlier : (c d : Call) → d.leave ≤ c.leave → lies_in c d ≡ false
-not_in_earlier c d h = ap (λ (b : Bool). nat_lt d.enter c.enter && b) (not_below c.leave d.leave h) ∙
-    and_false (nat_lt d.enter c.enter)
+not_in_earlier c d h = ap (λ (b : Bool). nat_lt d.enter c.enter && b) (le-ltb c.leave d.leave h) ∙
+    and-false (nat_lt d.enter c.enter)
 
 in_the_call : (c d : Call) → d.enter < c.enter → c.leave < d.leave → lies_in c d ≡ true
 in_the_call c d h k =
-    ap (λ (b : Bool). b && nat_lt c.leave d.leave) (is_below d.enter c.enter h) ∙ is_below c.leave d.leave k
+    ap (λ (b : Bool). b && nat_lt c.leave d.leave) (lt-ltb d.enter c.enter h) ∙ lt-ltb c.leave d.leave k
 
 both_weaker : (low high : ℕ) (P : Call → Type 0) (L : List Call)
     → ((c : Call) → low ≤ c.enter → c.leave < high → P c)
@@ -358,7 +304,7 @@ outer_of_flat (call f t A u B) p L before after e h k =
     (omega (arith, number)) k in
     ap (λ (b : Bool). cond b (c ∷ filter outer (in_a ++ in_b)) (filter outer (in_a ++ in_b))) kept
     ∙ ap (λ (l : List Call). c ∷ l) (filter-append outer in_a in_b ∙ ap (λ (l : List Call). l
-    ++ filter outer in_b) (filter_none outer in_a inside)
+    ++ filter outer in_b) (filter_All-none outer in_a inside)
     ∙ outer_of_flat B (q + 1) L (before ++ c ∷ in_a) after regrouped passed coming)
 
 -- which calls lie in no other, where the events of a forest stand among others

@@ -191,7 +191,7 @@ weight-bound is =
     by_bound (λ js. weight js ≤ weight is) (λ js p. omega (arith, weight-grouped js, p)) (length is) is
     (omega arith) (omega arith)
 
-some_bound : (is : List Item) → 0 < length is → 0 < length (bound is)
+pub some_bound : (is : List Item) → 0 < length is → 0 < length (bound is)
 some_bound is some =
     by_bound (λ js. 0 < length js) (λ js p. omega (arith, length-grouped js, p)) (length is) is (omega arith)
     some

@@ -8,8 +8,6 @@ mod examples;
 mod group;
 mod laws;
 mod pass;
-#[cfg(test)]
-mod tests;
 
 pub use bounding::split;
 pub use building::tree_of;

@@ -2,25 +2,14 @@
 use Rattle.std.proofs.Common.{◌≡◌, ℕ, ◌+◌, ◌-◌, ◌*◌, ◌^◌, ◌<◌, ◌≤◌, ◌⊎◌, inl, inr, List, [], ◌∷◌, ◌++◌, Bool}
 use Rattle.std.proofs.Common.{true, false, IsTrue, not, eqb, ◌↔◌, sym, ◌∙◌, ap, arith, zero, suc}
 use Rattle.std.proofs.lemmas.Nat.{pow-add}
-use Rattle.std.proofs.Math.Nat.{one-le-pow, mul-le-mul_right}
-use Rattle.std.proofs.lemmas.Int.Digits.{digits_value_push}
+use Rattle.std.proofs.Math.Nat.{mul-le-mul_right}
 use Rattle.std.proofs.lemmas.Bool.{true≢false}
 use Rattle.std.proofs.lemmas.Bool.Decides.{nat_tests}
-use Rattle.std.specs.Char.{digit_value, is_ascii_digit}
+use Rattle.std.specs.Char.{is_ascii_digit}
 use Rattle.std.specs.Str.Parse.{digits_value}
+use Rattle.list_lemmas.proofs.Digits.{ten_pow_pos, value_push}
 use Rattle.decimal_digits.specs.declared.digits.Digits.{Digits}
 use Rattle.decimal_digits.specs.Held.{Holds}
-
-pub ten_pow_pos : (k : ℕ) → 0 < 10 ^ k
-ten_pow_pos k = omega (arith, one-le-pow k 10 (omega arith))
-
-value_of_digit : (byte : ℕ) → is_ascii_digit byte ≡ true → digit_value byte ≡ byte - 48
-value_of_digit byte is = grind (arith, nat_tests, is)
-
--- one digit more
-value_push : (digits : List ℕ) (byte : ℕ) → is_ascii_digit byte ≡ true
-    → digits_value 10 (digits ++ byte ∷ []) ≡ 10 * digits_value 10 digits + (byte - 48)
-value_push digits byte is = digits_value_push 10 digits byte ∙ omega (arith, value_of_digit byte is)
 
 -- the head is the number where no digit was left out
 pub whole_head : (n head more low : ℕ) → more ≡ 0 → n ≡ head * 10 ^ more + low → low < 10 ^ more → n ≡ head

@@ -1,20 +1,13 @@
 -- Words all of whose bytes pass a test, by how many at their front do.
-use Rattle.std.proofs.Common.{◌≡◌, ℕ, ◌<◌, ◌⊎◌, inl, inr, List, [], ◌∷◌, length, take, Bool, true, false}
+use Rattle.std.proofs.Common.{◌≡◌, ℕ, ◌<◌, ◌⊎◌, inl, inr, List, [], ◌∷◌, length, take}
 use Rattle.std.proofs.Common.{Option, None, refl, ◌∙◌, ap, arith}
-use Rattle.std.specs.List.{prefix_len, list_all}
+use Rattle.std.specs.List.{prefix_len}
 use Rattle.std.specs.Char.{is_ascii_digit}
 use Rattle.std.specs.Str.Parse.{digits_value}
 use Rattle.std.proofs.lemmas.Bool.{lt-ltb}
 use Rattle.std.proofs.lemmas.List.{take_all}
-use Rattle.std.proofs.lemmas.List.Sums.{list_all-from_AllPass, prefix_len_passes, prefix_len_stops}
-use Rattle.std.proofs.lemmas.List.Folds.{list_all_at}
+use Rattle.list_lemmas.proofs.Found.{all_by_prefix, not_all_by_prefix}
 use Rattle.decimal_digits.specs.Decimal.{below_64_bits, decimal_of}
-
-pub all_by_prefix : (p : ℕ → Bool) (xs : List ℕ) → prefix_len p xs ≡ length xs → list_all p xs ≡ true
-all_by_prefix p xs e = list_all-from_AllPass p xs (λ k d below. prefix_len_passes p xs k d (omega arith))
-
-pub not_all_by_prefix : (p : ℕ → Bool) (xs : List ℕ) → prefix_len p xs < length xs → list_all p xs ≡ false
-not_all_by_prefix p xs short = list_all_at p xs (prefix_len p xs) 0 short (prefix_len_stops p xs 0 short)
 
 -- a word without digits, or with a byte that is none, has no number
 pub no_decimal : (word : List ℕ) → (length word ≡ 0) ⊎ (prefix_len is_ascii_digit word < length word)

@@ -6,15 +6,16 @@ use Rattle.std.proofs.Common.{Vec, Global}
 use Rattle.std.specs.BTreeSet.{insert_key}
 use Rattle.std.specs.Cmp.Lexicographic.{slice_cmp}
 use Rattle.std.specs.List.{All, range_with_len}
-use Rattle.std.specs.Ordering.{match_ordering, nat_cmp}
+use Rattle.std.specs.Ordering.{nat_cmp}
 use Rattle.std.specs.declared.cmp.Ordering.{Ordering}
-use Rattle.std.specs.declared.cmp.Ordering.TheVariants.{Less, Equal, Greater}
 use Rattle.std.proofs.lemmas.Bool.{cond-true, cond-false, eqb-false}
 use Rattle.std.proofs.lemmas.List.{map-append}
 use Rattle.std.proofs.lemmas.List.Elements.{filter-append, All-nil}
 use Rattle.std.proofs.lemmas.Map.Views.{All-insert_key}
 use Rattle.std.proofs.lemmas.List.FromFn.{filter_of_map_range_with_len_more}
 use Rattle.std.proofs.lemmas.List.Sums.{fold_push}
+use Rattle.std.proofs.lemmas.List.{map_more}
+use Rattle.list_lemmas.proofs.InOrder.{map-insert_key}
 use Rattle.trace_base.specs.Flat.{is_bare}
 use Rattle.trace_base.specs.InOrder.{distinct_in_order}
 use Rattle.trace_base.specs.Paths.{call_paths, call_stacks, path_row, path_stands}
@@ -23,23 +24,6 @@ use Rattle.trace_base.specs.declared.limits.TheConstants.{MAX_OPEN_CALLS}
 use Rattle.trace_base.specs.declared.profile.PathRow.{PathRow}
 use Rattle.trace_base.specs.declared.stream.TrackStream.{TrackStream}
 use Rattle.event_model.specs.PathRows.{rows_told, IsOfOpenCalls}
-use Rattle.event_model.proofs.Lists.{map-take_more}
-
--- a key put among others is read as it is put among what they are read as
-pub map-insert_key : {K L : Type 0} (read : K → L) (cmp : L → L → Ordering) (ks : List K) (k : K)
-    → map read (insert_key (λ x y. cmp (read x) (read y)) ks k) ≡ insert_key cmp (map read ks) (read k)
-map-insert_key read cmp [] k = refl
-map-insert_key read cmp (x ∷ xs) k = by (cmp (read k) (read x)) (map-insert_key read cmp xs k)
-  where
-    by : (r : Ordering)
-        → map read (insert_key (λ x y. cmp (read x) (read y)) xs k) ≡ insert_key cmp (map read xs) (read k)
-        → map read (match_ordering r (k ∷ x ∷ xs) (x ∷ xs)
-        (x ∷ insert_key (λ x y. cmp (read x) (read y)) xs k))
-        ≡ match_ordering r (read k ∷ read x ∷ map read xs) (read x ∷ map read xs)
-        (read x ∷ insert_key cmp (map read xs) (read k))
-    by Less rest = refl
-    by Equal rest = refl
-    by Greater rest = ap (λ ys. read x ∷ ys) rest
 
 abbrev stacks_upto : TrackStream → ℕ → List (List ℕ)
 stacks_upto s n = filter (λ stack. not (is_bare stack))
@@ -149,6 +133,6 @@ pub rows_told-more : (streams : List TrackStream) (a b : ℕ) (paths : List (Vec
     ++ cond (path_stands streams a b path.items) (path_row streams a b path.items ∷ []) []
 rows_told-more streams a b paths i path h e =
     ap (rows_told streams a b)
-    (map-take_more (λ (p : Vec ℕ Global). p.items) paths i path h
+    (map_more (λ (p : Vec ℕ Global). p.items) paths i path h
     ∙ ap (λ (p : Vec ℕ Global). map (λ (q : Vec ℕ Global). q.items) (take i paths) ++ p.items ∷ []) (sym e))
     ∙ rows_told-push streams a b (map (λ (p : Vec ℕ Global). p.items) (take i paths)) path.items

@@ -1,8 +1,8 @@
 -- The time in which the call stack has a property, piece by piece, and why the sums fit: the pieces of a
 -- legal stream lie one after the other between its start and its end.
 use Rattle.std.proofs.Common.{◌≡◌, ℕ, ◌+◌, ◌-◌, ◌<◌, ◌≤◌, zero, suc, List, [], ◌∷◌, ◌++◌, length, take}
-use Rattle.std.proofs.Common.{get_or, slice_index, map, filter, sum_by, min, max, Bool, true, false, cond}
-use Rattle.std.proofs.Common.{refl, ap, sym, subst, ◌∙◌, zero-add, add-one, arith, length-append, slice_get}
+use Rattle.std.proofs.Common.{get_or, slice_index, map, filter, sum_by, min, max, Bool, false, cond}
+use Rattle.std.proofs.Common.{refl, ap, sym, subst, ◌∙◌, zero-add, add-one, arith, slice_get}
 use Rattle.std.proofs.Common.{Option, Some, ◌&&◌, nat_le, nat_lt}
 use Rattle.std.specs.List.{range_with_len}
 use Rattle.std.proofs.Math.ListN.{get_or-append}
@@ -10,6 +10,8 @@ use Rattle.std.proofs.Math.Seq.{get_or-append_seam}
 use Rattle.std.proofs.lemmas.List.{get_or-map, length-map}
 use Rattle.std.proofs.lemmas.List.FromFn.{filter_of_map_range_with_len_more}
 use Rattle.std.proofs.lemmas.List.Sums.{sum_by-append, sum_by-le-sum_by, fold_more, length-filter}
+use Rattle.list_lemmas.proofs.Booleans.{cond-le}
+use Rattle.list_lemmas.proofs.Sums.{sum_by-cond}
 use Rattle.trace_base.specs.Flat.{clip, enters_in, time_with, calls_in}
 use Rattle.std.specs.Option.{option_map_or}
 use Rattle.std.proofs.lemmas.Option.{slice_get-get_or}
@@ -19,8 +21,8 @@ use Rattle.trace_base.specs.Stream.{IsLegal}
 use Rattle.trace_base.specs.declared.stream.Event.{Event}
 use Rattle.trace_base.specs.declared.stream.Event.TheVariants.{Enter, Leave}
 use Rattle.trace_base.specs.declared.stream.TrackStream.{TrackStream}
-use Rattle.event_model.proofs.Lists.{sum_by-cond}
 use Rattle.trace_base.specs.declared.limits.TheConstants.{MAX_STATE_EVENTS, MAX_TIME}
+use Rattle.trace_base.proofs.Moments.{length-moments}
 
 -- the moment before piece n
 pub moment : TrackStream → ℕ → ℕ
@@ -42,13 +44,6 @@ pub moment-last : (s : TrackStream) → moment s (length s.events + 1) ≡ s.end
 unfolding moment
 moment-last s = rw add-one (subst (λ (n : ℕ). get_or (map time_of s.events ++ s.end ∷ []) n 0 ≡ s.end)
     (length-map s.events time_of) (get_or-append_seam (map time_of s.events) s.end [] 0))
-
-pub length-moments : (s : TrackStream) → length (moments s) ≡ length s.events + 2
-length-moments s = omega (
-  arith,
-  length-append (map time_of s.events) (s.end ∷ []),
-  length-map s.events time_of,
-)
 
 pub moment-le : (s : TrackStream) (m n : ℕ) → IsLegal s → m ≤ n → n ≤ length s.events + 1
     → moment s m ≤ moment s n
@@ -78,10 +73,6 @@ pub time_upto-all : (has : List ℕ → Bool) (a b : ℕ) (s : TrackStream)
     → time_upto has a b s (length s.events + 1) ≡ time_with has a b s
 unfolding time_upto time_with pieces
 time_upto-all has a b s = refl
-
-cond-le : (c : Bool) (x y : ℕ) → x ≤ y → cond c x 0 ≤ y
-cond-le true x y h = h
-cond-le false x y h = omega arith
 
 -- the clips of the first pieces add up to at most the time that the pieces take
 pub time_upto-le : (has : List ℕ → Bool) (a b : ℕ) (s : TrackStream) (n : ℕ) → IsLegal s → n ≤ length s.events

@@ -7,8 +7,6 @@ mod line;
 mod part;
 mod pass;
 mod paths;
-#[cfg(test)]
-mod tests;
 
 pub use flat::{flat_of, flat_of_all};
 pub use line::line_of;

@@ -1,11 +1,11 @@
 -- What holds of each seat of a good world, and of what it has.
-use Rattle.std.proofs.Common.{◌≡◌, ◌≤◌, ℕ, zero, suc, List, [], ◌∷◌, All, Contains, Some, refl}
+use Rattle.std.proofs.Common.{◌≡◌, ◌≤◌, ℕ, zero, suc, List, [], ◌∷◌, Contains, Some, refl}
 use Rattle.std.proofs.Common.{slice_get, subst, sym}
 use Rattle.std.proofs.lemmas.Bool.{false≢true}
 use Rattle.std.proofs.lemmas.List.Elements.{All-cons, All-nil, Contains-append_left}
 use Rattle.std.proofs.lemmas.List.Elements.{Contains-append_right}
-use Rattle.std.proofs.lemmas.Option.{get_or_from_slice_get, none-some, same_Some}
-use Rattle.std.proofs.lemmas.Option.{slice_get_within}
+use Rattle.std.proofs.lemmas.Option.{none-some, same_Some}
+use Rattle.list_lemmas.proofs.All.{All-at}
 use Rattle.node_key.specs.Stands.{Stands}
 use Rattle.node_key.specs.declared.limits.TheConstants.{MAX_NUMBERS}
 use Rattle.node_key.specs.declared.stake.Stake.{Stake}
@@ -16,12 +16,6 @@ use Rattle.hall_core.specs.OneTree.{OneTreeEach}
 use Rattle.hall_core.specs.World.{HasSeenNothing, IsGood, all_stakes, empty_seat, new_world}
 use Rattle.hall_core.specs.declared.world.SeatView.{SeatView}
 use Rattle.hall_core.specs.declared.world.World.{World}
-
--- what holds of each element holds of the one of an index
-pub each-at : {X : Type 0} → (P : X → Type 0) (xs : List X) (i : ℕ) (x : X) → All P xs
-    → slice_get xs i ≡ Some x → P x
-each-at P xs i x all at =
-    subst P (get_or_from_slice_get xs i x x at) (all i x (slice_get_within xs i x at))
 
 -- a stake of a seat is one of those of all seats
 pub held-at : (seats : List SeatView) (i : ℕ) (seat : SeatView) → slice_get seats i ≡ Some seat → (x : Stake)
@@ -59,7 +53,7 @@ good-canonic w good = good.store.canonic
 -- no seat of a good world has made or seen an entry
 pub good-seat : (w : World) (i : ℕ) (seat : SeatView) → IsGood w → slice_get w.seats i ≡ Some seat
     → HasSeenNothing seat
-good-seat w i seat good at = each-at HasSeenNothing w.seats i seat good.seats at
+good-seat w i seat good at = All-at HasSeenNothing w.seats i seat good.seats at
 
 -- a seat that has stakes, and nothing else
 pub seen_nothing : (stakes : List Stake) → HasSeenNothing (record (empty_seat 0) { stakes = stakes })

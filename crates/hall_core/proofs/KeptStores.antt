@@ -1,8 +1,10 @@
 -- What one seat does in the store keeps it, for its stakes and those of all others.
 use Rattle.std.proofs.Common.{◌≡◌, ◌⊎◌, inl, inr, ℕ, ◌%◌, ◌≤◌, Bool, true, false, List, [], ◌∷◌, ◌++◌}
-use Rattle.std.proofs.Common.{Contains, Some, refl, sym, ap, ◌∙◌, arith, length, map, slice_get, slice_set}
+use Rattle.std.proofs.Common.{Contains, Some, refl, sym, ap, ◌∙◌, arith, map, slice_get, slice_set}
 use Rattle.std.proofs.Common.{subst}
 use Rattle.std.proofs.lemmas.List.Sums.{sum_by-cons}
+use Rattle.list_lemmas.proofs.Booleans.{one_if}
+use Rattle.list_lemmas.proofs.Fronts.{cons_head, cons_tail, no_cons}
 use Rattle.node_key.specs.Keys.{numbered}
 use Rattle.node_key.specs.Stakes.{AreOnKids, Exchanges, HasStakes, IsOverStakes, same_stake, times}
 use Rattle.node_key.specs.Stands.{Stands}
@@ -11,6 +13,7 @@ use Rattle.node_key.specs.declared.key.Kid.{Kid}
 use Rattle.node_key.specs.declared.key.NodeKey.{NodeKey}
 use Rattle.node_key.specs.declared.limits.TheConstants.{STORE_ROOMS}
 use Rattle.node_key.specs.declared.stake.Stake.{Stake}
+use Rattle.node_key.proofs.StakeLaws.{has_before, times-append}
 use Rattle.shard_core.specs.Interning.{Drops}
 use Rattle.shard_core.specs.Room.{Room}
 use Rattle.shard_core.specs.declared.answers.Dropped.{Dropped}
@@ -21,10 +24,10 @@ use Rattle.store_laws.specs.Counted.{IsStore}
 use Rattle.store_laws.specs.Store.{Store, key_in}
 use Rattle.store_laws.proofs.StepsAnswered.{dropped_kept, dropped_removed, interned_known, interned_new}
 use Rattle.store_laws.proofs.StepsOfKids.{numbers}
-use Rattle.store_laws.proofs.SumsOfStakes.{from_either, one_if, same_stake-true, stakes_exchanged}
+use Rattle.store_laws.proofs.SumsOfStakes.{same_stake-true}
 use Rattle.store_laws.proofs.SumsOfStakes.{times_from_there}
 use Rattle.hall_core.specs.Steps.{AreFreed, DropsIn, InternsIn}
-use Rattle.hall_core.proofs.SeatStakes.{exchanges-among, times-append}
+use Rattle.hall_core.proofs.SeatStakes.{exchanges-among}
 
 -- ---- stakes that move
 
@@ -34,23 +37,7 @@ stands_by : (rooms : Store) (held : List Stake) (x : Stake) → IsStore rooms he
 stands_by rooms held x store (inl there) = store.counted.stands x there
 stands_by rooms held x store (inr there) = absurd (omega (arith, there.1))
 
--- it only counts how often each stake is held
-pub moved : (rooms : Store) (held held' : List Stake) → IsStore rooms held → Exchanges held held' [] []
-    → IsStore rooms held'
-moved rooms held held' store swap = record {
-  canonic = store.canonic;
-  counted = record {
-    stands = λ x there. stands_by rooms held x store (from_either held held' [] [] x swap there);
-    counts = λ n s at.
-        omega (arith, store.counted.counts n s at, stakes_exchanged n held held' [] [] swap);
-  };
-}
-
 -- ---- a key that is entered
-
--- what is among some of the stakes is among all
-pub has-among : (mine others wanted : List Stake) → HasStakes mine wanted → HasStakes (mine ++ others) wanted
-has-among mine others wanted has x = omega (arith, has x, times-append x mine others)
 
 -- the store is kept, whether or not the key is new
 pub interned : (key : NodeKey) (i : Interned) (rooms rooms' : Store) (mine mine' others : List Stake)
@@ -59,24 +46,15 @@ pub interned : (key : NodeKey) (i : Interned) (rooms rooms' : Store) (mine mine'
 interned key (Known n) rooms rooms' mine mine' others store is =
     subst (λ (r : Store). IsStore r (mine' ++ others)) (sym is.rooms_now)
     (interned_known rooms (mine ++ others) (mine' ++ others) is.kids is.tree key is.before is.after n store
-    is.there is.over (has-among mine others is.kids is.has) is.answered
+    is.there is.over (has_before mine others is.kids is.has) is.answered
     (exchanges-among mine mine' [] (record { number = n; tree = is.tree } ∷ []) others is.exchanged))
 interned key (New n) rooms rooms' mine mine' others store is =
     subst (λ (r : Store). IsStore r (mine' ++ others)) (sym is.rooms_now)
     (interned_new rooms (mine ++ others) (mine' ++ others) is.kids is.tree key is.before is.after n store
-    is.there is.over (has-among mine others is.kids is.has) is.answered
+    is.there is.over (has_before mine others is.kids is.has) is.answered
     (exchanges-among mine mine' is.kids (record { number = n; tree = is.tree } ∷ []) others is.exchanged))
 
 -- ---- the stakes on the kids of a key
-
-no_cons : {X : Type 0} → (x : X) (xs : List X) → x ∷ xs ≡ [] → ⊥
-no_cons x xs same = let long = ap length same in omega (arith, long)
-
-first_same : {X : Type 0} → (x y : X) (xs ys : List X) → x ∷ xs ≡ y ∷ ys → x ≡ y
-first_same x y xs ys same = cc
-
-rest_same : {X : Type 0} → (x y : X) (xs ys : List X) → x ∷ xs ≡ y ∷ ys → xs ≡ ys
-rest_same x y xs ys same = cc
 
 -- stakes on kids that have the same numbers are the same
 one_on_kids : (k : Kids) (xs ys : List Stake) → AreOnKids k xs → AreOnKids k ys
@@ -87,13 +65,13 @@ one_on_kids no_kids [] (y ∷ ys) at_x at_y same = absurd (no_cons _ _ at_y)
 one_on_kids (kid gap func dur inner more) [] ys at_x at_y same = absurd (no_cons _ _ (sym at_x))
 one_on_kids (kid gap func dur inner more) (x ∷ xs) [] at_x at_y same = absurd (no_cons _ _ (sym at_y))
 one_on_kids (kid gap func dur inner more) (x ∷ xs) (y ∷ ys) at_x at_y same =
-    let first = first_same _ _ (numbered more (numbers xs)) (numbered more (numbers ys)) same in
-    let rest = rest_same _ _ (numbered more (numbers xs)) (numbered more (numbers ys)) same in
+    let first = cons_head _ _ (numbered more (numbers xs)) (numbered more (numbers ys)) same in
+    let rest = cons_tail _ _ (numbered more (numbers xs)) (numbered more (numbers ys)) same in
     let number : x.number ≡ y.number = ap (λ (k : Kid). k.node) first in
-    let tree : x.tree ≡ y.tree = first_same _ _ (map (λ (s : Stake). s.tree) xs) _ at_x
-    ∙ sym (first_same _ _ (map (λ (s : Stake). s.tree) ys) _ at_y) in
-    let others = one_on_kids more xs ys (rest_same x.tree _ (map (λ (s : Stake). s.tree) xs) _ at_x)
-    (rest_same y.tree _ (map (λ (s : Stake). s.tree) ys) _ at_y) rest in
+    let tree : x.tree ≡ y.tree = cons_head _ _ (map (λ (s : Stake). s.tree) xs) _ at_x
+    ∙ sym (cons_head _ _ (map (λ (s : Stake). s.tree) ys) _ at_y) in
+    let others = one_on_kids more xs ys (cons_tail x.tree _ (map (λ (s : Stake). s.tree) xs) _ at_x)
+    (cons_tail y.tree _ (map (λ (s : Stake). s.tree) ys) _ at_y) rest in
     λ i. (let s : Stake = record { number = number i; tree = tree i } in s) ∷ others i
 
 -- a key over a tree tells the stakes on its kids

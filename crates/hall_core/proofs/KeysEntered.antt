@@ -1,6 +1,7 @@
 -- A key is entered: what came of it in the rooms and in the stakes.
 use Rattle.std.proofs.Common.{◌≡◌, ℕ, List, [], ◌∷◌, Some, Result, Ok, Err, ap, ◌∙◌}
 use Rattle.std.proofs.Common.{refl, slice_get, slice_set, subst, sym}
+use Rattle.list_lemmas.proofs.Positions.{set_same}
 use Rattle.node_key.specs.Rooms.{room}
 use Rattle.node_key.specs.Stakes.{Exchanges}
 use Rattle.node_key.specs.Tree.{Tree}
@@ -17,7 +18,6 @@ use Rattle.hall_core.specs.OneTree.{IsStakedTree}
 use Rattle.hall_core.specs.Steps.{InternsIn, Spends, number_told, used_up}
 use Rattle.hall_core.specs.declared.events.StepAnswer.{StepAnswer}
 use Rattle.hall_core.specs.declared.events.StepAnswer.TheVariants as answer
-use Rattle.hall_core.proofs.PutBack.{set-same}
 use Rattle.hall_core.proofs.RoomsThere.{room-of-key}
 
 -- what a room answers to a key, and the rooms after it; where no memory was found, they are as before
@@ -33,9 +33,9 @@ entered-in : (rooms after : Store) (key : NodeKey) (answer : Result Interned Sha
     → after ≡ slice_set rooms (room key) r → Enters rooms key answer after
 entered-in rooms after key (Ok i) before r at interns is = (before, r, at, interns, is)
 entered-in rooms after key (Err (Spent v)) before r at (spent, same) is =
-    ((before, at, spent), is ∙ ap (slice_set rooms (room key)) same ∙ set-same rooms (room key) before at)
+    ((before, at, spent), is ∙ ap (slice_set rooms (room key)) same ∙ set_same rooms (room key) before at)
 entered-in rooms after key (Err Memory) before r at (absent, below, same) is =
-    is ∙ ap (slice_set rooms (room key)) same ∙ set-same rooms (room key) before at
+    is ∙ ap (slice_set rooms (room key)) same ∙ set_same rooms (room key) before at
 
 -- the same, since each key has a room
 pub entered : (rooms after : Store) (key : NodeKey) (answer : Result Interned ShardFault) → IsCanonic rooms

@@ -2,11 +2,9 @@ pub mod GoodWorlds
 pub mod KeptStores
 pub mod KeysEntered
 pub mod KidStakes
-pub mod PutBack
 pub mod ReachOneStake
 pub mod ReachStored
 pub mod ReadsThere
-pub mod RoomAnswers
 pub mod RoomsThere
 pub mod RunsMore
 pub mod SampleReach

@@ -5,6 +5,7 @@ use Rattle.std.proofs.Common.{subst, arith}
 use Rattle.std.proofs.lemmas.List.{get_or-take, length-take}
 use Rattle.std.proofs.lemmas.List.Elements.{All-contains, Contains-get_or}
 use Rattle.std.proofs.lemmas.Option.{none-some, same_Some}
+use Rattle.list_lemmas.proofs.Members.{has_here, has_only}
 use Rattle.node_key.specs.Branches.{branches}
 use Rattle.node_key.specs.Keys.{IsKeyOf, numbered}
 use Rattle.node_key.specs.Stakes.{stake}
@@ -14,23 +15,10 @@ use Rattle.node_key.specs.Tree.{Kids, Tree, count, kid, no_kids, nodes, nodes_be
 use Rattle.node_key.specs.declared.key.Kid.{Kid}
 use Rattle.node_key.specs.declared.key.NodeKey.{NodeKey}
 use Rattle.node_key.specs.declared.tree.Branch.{Branch}
+use Rattle.node_key.proofs.Numbering.{length-numbered}
 use Rattle.store_laws.specs.Reached.{IsReached, staked, below}
 use Rattle.store_laws.specs.Store.{Store, key_in, kids_in}
 use Rattle.store_laws.proofs.CanonicKeys.{key_of_node, node_of_key}
-use Rattle.store_laws.proofs.CanonicMembers.{Contains-from_IsAmong, IsAmong-from_Contains}
-
--- ---- lists of one
-
--- a list of one has that one
-only : {X : Type 0} → (x y : X) → Contains (x ∷ []) y → x ≡ y
-only x y h = elim (IsAmong-from_Contains (x ∷ []) y h) [
-  | inl e ↦ e
-  | inr none ↦ absurd none
-]
-
--- and has it
-first_of_one : {X : Type 0} → (x : X) → Contains (x ∷ []) x
-first_of_one x = Contains-from_IsAmong (x ∷ []) x (inl refl)
 
 -- ---- one stake and several
 
@@ -45,7 +33,7 @@ reached_by_others rooms held others n each (below m s k up is h) =
 -- what several stakes reach, one of them reaches alone
 pub reached_by_one : (rooms : Store) (held : List Stake) (n : ℕ) → IsReached rooms held n
     → (x : Stake) × Contains held x × IsReached rooms (x ∷ []) n
-reached_by_one rooms held n (staked x h) = (x, h, staked x (first_of_one x))
+reached_by_one rooms held n (staked x h) = (x, h, staked x (has_here x []))
 reached_by_one rooms held n (below m s k up is h) =
     let (x, among, alone) = reached_by_one rooms held m up in (x, among, below m s k alone is h)
 
@@ -54,7 +42,7 @@ pub reached_by_all : (rooms : Store) (held : List Stake) (x : Stake) (n : ℕ) �
     → IsReached rooms (x ∷ []) n → IsReached rooms held n
 reached_by_all rooms held x n among alone =
     reached_by_others rooms (x ∷ []) held n
-    (λ y h. subst (λ (z : Stake). IsReached rooms held z.number) (only x y h) (staked x among)) alone
+    (λ y h. subst (λ (z : Stake). IsReached rooms held z.number) (has_only x y h) (staked x among)) alone
 
 -- none of the stakes reaches the number alone
 abbrev pub NoneReaches : Store → ℕ → List Stake → Type 0
@@ -74,14 +62,14 @@ pub other_tree : (rooms : Store) (n : ℕ) (t u : Tree) (target : ℕ) → IsRea
     → IsReached rooms (stake n u ∷ []) target
 other_tree rooms n t u target reaches =
     reached_by_others rooms (stake n t ∷ []) (stake n u ∷ []) target
-    (λ y h. subst (λ (z : Stake). IsReached rooms (stake n u ∷ []) z.number) (only (stake n t) y h)
-    (staked (stake n u) (first_of_one (stake n u)))) reaches
+    (λ y h. subst (λ (z : Stake). IsReached rooms (stake n u ∷ []) z.number) (has_only (stake n t) y h)
+    (staked (stake n u) (has_here (stake n u) []))) reaches
 
 -- a stake reaches its number
 pub reached_itself : (rooms : Store) (n : ℕ) (t : Tree) (target : ℕ) → n ≡ target
     → IsReached rooms (stake n t ∷ []) target
 reached_itself rooms n t target is =
-    subst (IsReached rooms (stake n t ∷ [])) is (staked (stake n t) (first_of_one (stake n t)))
+    subst (IsReached rooms (stake n t ∷ [])) is (staked (stake n t) (has_here (stake n t) []))
 
 -- and what a stake on a kid of its node reaches
 pub reached_by_kid : (rooms : Store) (n : ℕ) (t u : Tree) (key : NodeKey) (k : Kid) (target : ℕ)
@@ -92,14 +80,15 @@ reached_by_kid rooms n t u key k target at among reaches =
     let here = reached_itself rooms n t n refl in
     let under = subst (λ (l : NodeKey). Contains (kids_in l) k) (sym same) among in
     reached_by_others rooms (stake k.node u ∷ []) (stake n t ∷ []) target
-    (λ y h. subst (λ (z : Stake). IsReached rooms (stake n t ∷ []) z.number) (only (stake k.node u) y h)
+    (λ y h. subst (λ (z : Stake). IsReached rooms (stake n t ∷ []) z.number) (has_only (stake k.node u) y h)
     (below n s k here is under)) reaches
 
 -- and nothing else: it is the number, or what a stake on a kid reaches
 reached_cases : (rooms : Store) (n : ℕ) (t : Tree) (key : NodeKey) (target : ℕ) → key_in rooms n ≡ Some key
     → IsReached rooms (stake n t ∷ []) target
     → (n ≡ target) ⊎ ((k : Kid) × Contains (kids_in key) k × IsReached rooms (stake k.node t ∷ []) target)
-reached_cases rooms n t key target at (staked x h) = inl (ap (λ (y : Stake). y.number) (only (stake n t) x h))
+reached_cases rooms n t key target at (staked x h) = inl (ap (λ (y : Stake). y.number) (has_only (stake n t) x
+    h))
 reached_cases rooms n t key target at (below m s k up is h) =
     elim (reached_cases rooms n t key m at up) [
       | inl e ↦
@@ -138,13 +127,6 @@ kid_has_fewer_nodes (kid gap func dur inner more) zero u is = omega (
 )
 kid_has_fewer_nodes (kid gap func dur inner more) (suc i) u is =
     omega (arith, kid_has_fewer_nodes more i u is)
-
--- there are as many numbered kids as kids
-length-numbered : (ks : Kids) (ns : List ℕ) → length ns ≡ count ks → length (numbered ks ns) ≡ count ks
-length-numbered no_kids ns long = refl
-length-numbered (kid gap func dur inner more) [] long = absurd (omega (arith, long))
-length-numbered (kid gap func dur inner more) (n ∷ ns) long =
-    omega (arith, length-numbered more ns (omega (arith, long)))
 
 -- where numbers stand for kids, the number at an index stands for the branch there
 numbered_kid_stands : (at : KeyAt) (ks : Kids) (ns : List ℕ) (i : ℕ) (u : Tree) (d : Kid) → KidsStand at ns ks

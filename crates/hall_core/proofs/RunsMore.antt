@@ -1,8 +1,8 @@
 -- Events that are done, with one more.
-use Rattle.std.proofs.Common.{◌≡◌, ◌≢◌, ℕ, ◌+◌, ◌<◌, List, [], ◌∷◌, ◌++◌, Some, refl, sym, ap, ◌∙◌, subst}
-use Rattle.std.proofs.Common.{length, take, get_or, slice_get}
-use Rattle.std.proofs.lemmas.List.{get_or_default, take_more}
-use Rattle.std.proofs.lemmas.Option.{get_or_from_slice_get, slice_get-get_or, slice_get_within}
+use Rattle.std.proofs.Common.{◌≡◌, ◌≢◌, ℕ, ◌+◌, List, [], ◌∷◌, ◌++◌, Some, refl, sym, ap, ◌∙◌, subst}
+use Rattle.std.proofs.Common.{take, slice_get}
+use Rattle.std.proofs.lemmas.List.{take_more}
+use Rattle.std.proofs.lemmas.Option.{get_or_from_slice_get, slice_get_within}
 use Rattle.hall_core.specs.Allowed.{Allows}
 use Rattle.hall_core.specs.Runs.{AreDone}
 use Rattle.hall_core.specs.Steps.{IsStep}
@@ -27,12 +27,6 @@ done-more ((actor', e') ∷ front) (b ∷ answers) old mid new actor e a done ma
     (done.0, done.1, done.2, done.3, done-more front answers done.2 mid new actor e a done.4 may found is)
 done-more [] (b ∷ answers) old mid new actor e a done may found is = absurd done
 done-more ((actor', e') ∷ front) [] old mid new actor e a done may found is = absurd done
-
--- the item of a list, each part of which is read on its own
-pub read-parts : {X Y : Type 0} (xs : List (X × Y)) (i : ℕ) (d d' : X × Y) → i < length xs
-    → slice_get xs i ≡ Some ((get_or xs i d).0, (get_or xs i d').1)
-read-parts xs i d d' within =
-    slice_get-get_or xs i d within ∙ ap (λ z. Some ((get_or xs i d).0, z.1)) (get_or_default xs i d d' within)
 
 -- where the first i events are done, the next one more
 pub taken-more : (list : List (ℕ × HallEvent)) (i : ℕ) (answers : List StepAnswer) (old mid new : World)

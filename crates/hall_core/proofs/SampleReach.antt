@@ -1,11 +1,12 @@
 -- What stakes reach in a store that is made of a list of nodes.
 use Rattle.std.proofs.Common.{◌≡◌, ℕ, ◌==◌, true, List, sym, ◌∙◌}
 use Rattle.std.specs.List.{list_any}
+use Rattle.list_lemmas.proofs.All.{Each, Each-at}
 use Rattle.node_key.specs.declared.stake.Stake.{Stake}
 use Rattle.store_laws.specs.Reached.{IsReached, below, staked}
 use Rattle.store_laws.specs.Store.{kids_in}
 use Rattle.hall_core.specs.Examples.{rooms_with}
-use Rattle.hall_core.proofs.SampleRooms.{Each, Each-at, Nodes, found_is, node_in-rooms_with}
+use Rattle.hall_core.proofs.SampleRooms.{Nodes, found_is, node_in-rooms_with}
 
 -- Where some numbers are those of all stakes and of all kids, what is reached has one of them.
 pub reached_among : (nodes : Nodes) (held : List Stake) (ns : List ℕ) (n : ℕ)

@@ -1,8 +1,8 @@
 -- Stores that are made of a list of nodes, which is how the examples give them.
-use Rattle.std.proofs.Common.{◌≡◌, ℕ, zero, suc, ◌+◌, ◌%◌, ◌/◌, ◌<◌, ◌≤◌, ◌==◌, Bool, true, false, cond}
+use Rattle.std.proofs.Common.{◌≡◌, ℕ, ◌+◌, ◌%◌, ◌/◌, ◌<◌, ◌≤◌, ◌==◌, Bool, true, false, cond}
 use Rattle.std.proofs.Common.{List, [], ◌∷◌, ◌++◌, Option, Some, filter, map, length, refl, sym, ap, ◌∙◌}
 use Rattle.std.proofs.Common.{subst, arith, slice_get, option_and_then, flat_map, true≢false}
-use Rattle.std.proofs.Common.{All, Contains, le_of_suc-le-suc, sum_by}
+use Rattle.std.proofs.Common.{sum_by}
 use Rattle.std.specs.Cmp.{nat_cmp_total}
 use Rattle.std.specs.FinMap as fin
 use Rattle.std.specs.FinMap.{entries-insert, find, get-from_entries, len-empty, len-entries, put}
@@ -11,6 +11,9 @@ use Rattle.std.specs.Ordering.{eq_by_cmp, nat_cmp}
 use Rattle.std.proofs.lemmas.Bool.{eq-eqb, eqb-true}
 use Rattle.std.proofs.lemmas.List.FromFn.{length-map-range_with_len}
 use Rattle.std.proofs.lemmas.Option.{none-some, same_Some, slice_get_within}
+use Rattle.list_lemmas.proofs.All.{Each, Each-at}
+use Rattle.list_lemmas.proofs.Numbers.{nat_tie}
+use Rattle.list_lemmas.proofs.Ranges.{range_item}
 use Rattle.node_key.specs.Rooms.{room}
 use Rattle.node_key.specs.Stands.{Stands}
 use Rattle.node_key.specs.declared.key.NodeKey.{NodeKey}
@@ -18,7 +21,6 @@ use Rattle.node_key.specs.declared.limits.TheConstants.{STORE_ROOMS}
 use Rattle.node_key.specs.declared.stake.Stake.{Stake}
 use Rattle.shard_core.specs.declared.limits.TheConstants.{MAX_COUNT}
 use Rattle.shard_core.specs.Room.{IsSound, Room, Stored, node_at}
-use Rattle.shard_core.proofs.RoomMaps.{tie}
 use Rattle.store_laws.specs.Counted.{IsCounted, kid_places, names_kid, stakes_on}
 use Rattle.store_laws.specs.Store.{IsCanonic, IsWellPlaced, key_in, node_in, nodes_in}
 use Rattle.hall_core.specs.Examples.{room_with, rooms_with}
@@ -27,23 +29,6 @@ use Rattle.hall_core.specs.Examples.{room_with, rooms_with}
 abbrev pub Nodes : Type 0
 Nodes = List (ℕ × Stored)
 
--- it holds of each element, one by one
-abbrev pub Each : {X : Type 0} → (X → Type 0) → List X → Type 0
-Each P [] = Unit {0}
-Each P (x ∷ xs) = P x × Each P xs
-
--- so it holds of one that the list has
-pub Each-at : {X : Type 0} (P : X → Type 0) (xs : List X) (x : X) → Each P xs → Contains xs x → P x
-Each-at P [] x each (k, below, is) = absurd (omega (arith, below))
-Each-at P (y ∷ ys) x each (zero, below, is) = subst P is each.0
-Each-at P (y ∷ ys) x each (suc k, below, is) = Each-at P ys x each.1 (k, le_of_suc-le-suc below, is)
-
--- and at each index
-pub All-from_Each : {X : Type 0} (P : X → Type 0) (xs : List X) → Each P xs → All P xs
-All-from_Each P [] each k d below = absurd (omega (arith, below))
-All-from_Each P (x ∷ xs) each zero d below = each.0
-All-from_Each P (x ∷ xs) each (suc k) d below = All-from_Each P xs each.1 k d (le_of_suc-le-suc below)
-
 -- ---- what is found in a list of nodes
 
 -- it is the first of them, or one of the rest
@@ -51,7 +36,7 @@ first_or_later : (P : ℕ × Stored → Type 0) (e : ℕ × Stored) (n : ℕ) (s
     (later : Option Stored) → eq_by_cmp nat_cmp n e.0 ≡ b → P e → (later ≡ Some s → P (n, s))
     → cond b (Some e.1) later ≡ Some s → P (n, s)
 first_or_later P e n s true later same here rest is =
-    let number : e.0 ≡ n = sym (eqb-true n e.0 (sym (tie n e.0) ∙ same)) in
+    let number : e.0 ≡ n = sym (eqb-true n e.0 (sym (nat_tie n e.0) ∙ same)) in
     subst (λ (v : Stored). P (n, v)) (same_Some e.1 s is) (subst (λ (m : ℕ). P (m, e.1)) number here)
 first_or_later P e n s false later other here rest is = rest is
 
@@ -83,7 +68,7 @@ kept : (e : ℕ × Stored) (n : ℕ) (b c : Bool) (es : Nodes) (later : Option S
 kept e n b true es later same passes rest = λ i. cond (same i) (Some e.1) (rest i)
 kept e n true false es later same fails rest =
     let number : e.0 % STORE_ROOMS ≡ n % STORE_ROOMS =
-    ap (λ m. m % STORE_ROOMS) (sym (eqb-true n e.0 (sym (tie n e.0) ∙ same))) in
+    ap (λ m. m % STORE_ROOMS) (sym (eqb-true n e.0 (sym (nat_tie n e.0) ∙ same))) in
     absurd (true≢false (sym (eq-eqb (e.0 % STORE_ROOMS) (n % STORE_ROOMS) number) ∙ fails))
 kept e n false false es later same fails rest = rest
 
@@ -97,17 +82,10 @@ find-filter (e ∷ es) n =
 
 -- ---- the rooms
 
--- what is at an index of a list that a function of the indexes makes
-at_index : {X : Type 0} (f : ℕ → X) (a n i j : ℕ) → i < n → a + i ≡ j
-    → slice_get (map f (range_with_len a n)) i ≡ Some (f j)
-at_index f a zero i j below is = absurd (omega arith)
-at_index f a (suc n) zero j below is = ap (λ k. Some (f k)) (let same : a ≡ j = omega arith in same)
-at_index f a (suc n) (suc i) j below is = at_index f (a + 1) n i j (omega arith) (omega arith)
-
 -- the room of an index
 pub room_there : (nodes : Nodes) (i : ℕ) → i < STORE_ROOMS
     → slice_get (rooms_with nodes) i ≡ Some (room_with nodes i)
-room_there nodes i below = at_index (room_with nodes) 0 STORE_ROOMS i i below (omega arith)
+room_there nodes i below = range_item (room_with nodes) 0 STORE_ROOMS i i below (omega arith)
 
 -- what is there at an index
 pub room_seen : (nodes : Nodes) (i : ℕ) (r : Room) → slice_get (rooms_with nodes) i ≡ Some r

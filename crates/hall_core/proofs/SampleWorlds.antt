@@ -5,6 +5,7 @@ use Rattle.std.proofs.lemmas.Option.{same_Some}
 use Rattle.std.specs.FinMap.{find}
 use Rattle.std.specs.Option.{option_map, option_map_or}
 use Rattle.std.specs.Ordering.{nat_cmp}
+use Rattle.list_lemmas.proofs.All.{Each, Each-at}
 use Rattle.node_key.specs.Examples.{half, half_key, leaf_of_three, tenth, tenth_key, track_key}
 use Rattle.node_key.specs.Examples.{track_of_half}
 use Rattle.node_key.specs.Keys.{IsKeyOf}
@@ -17,7 +18,7 @@ use Rattle.hall_core.specs.Examples.{four_nodes, counted_node, other, rooms_with
 use Rattle.hall_core.specs.Allowed.{IsActive}
 use Rattle.hall_core.specs.declared.world.SeatView.{SeatView}
 use Rattle.hall_core.specs.declared.world.World.{World}
-use Rattle.hall_core.proofs.SampleRooms.{Each, Each-at, Fits, IsCanonic-rooms_with}
+use Rattle.hall_core.proofs.SampleRooms.{Fits, IsCanonic-rooms_with}
 use Rattle.hall_core.proofs.SampleRooms.{Nodes, node_in-rooms_with}
 
 -- ---- keys of the trees

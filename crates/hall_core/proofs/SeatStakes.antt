@@ -1,16 +1,12 @@
 -- The stakes of all seats as a bag, where one seat or another has others.
-use Rattle.std.proofs.Common.{◌≡◌, ℕ, zero, suc, ◌+◌, List, [], ◌∷◌, ◌++◌, Some, slice_get, slice_set}
-use Rattle.std.proofs.Common.{ap, arith, cond}
-use Rattle.std.proofs.lemmas.List.Sums.{sum_by-append}
+use Rattle.std.proofs.Common.{◌≡◌, ℕ, zero, suc, List, [], ◌∷◌, ◌++◌, Some, slice_get, slice_set}
+use Rattle.std.proofs.Common.{ap, arith}
 use Rattle.std.proofs.lemmas.Option.{none-some, same_Some}
-use Rattle.node_key.specs.Stakes.{Exchanges, same_stake, times}
+use Rattle.node_key.specs.Stakes.{Exchanges, times}
 use Rattle.node_key.specs.declared.stake.Stake.{Stake}
+use Rattle.node_key.proofs.StakeLaws.{times-append}
 use Rattle.hall_core.specs.World.{all_stakes}
 use Rattle.hall_core.specs.declared.world.SeatView.{SeatView}
-
--- how often a stake stands in two lists
-pub times-append : (x : Stake) (xs ys : List Stake) → times x (xs ++ ys) ≡ times x xs + times x ys
-times-append x xs ys = sum_by-append (λ (y : Stake). cond (same_stake x y) 1 0) xs ys
 
 -- an exchange leaves other stakes as they are
 pub exchanges-among : (old new taken given others : List Stake) → Exchanges old new taken given

@@ -3,6 +3,7 @@ use Rattle.std.proofs.Common.{◌≡◌, ◌≢◌, ℕ, ◌<◌, max, true, Lis
 use Rattle.std.proofs.Common.{◌∙◌, arith, length, get_or, set, slice_get}
 use Rattle.std.proofs.lemmas.List.{append-nil, get_or-set_other, get_or-set_same, length-set}
 use Rattle.std.proofs.lemmas.Option.{slice_get_within}
+use Rattle.list_lemmas.proofs.Positions.{set_again}
 use Rattle.node_key.specs.declared.stake.Stake.{Stake}
 use Rattle.hall_core.specs.Allowed.{Allows}
 use Rattle.hall_core.specs.Steps.{JoinsSeats, ended_seat}
@@ -11,7 +12,7 @@ use Rattle.hall_core.specs.declared.events.HallEvent.TheVariants as event
 use Rattle.hall_core.specs.declared.world.SeatView.{SeatView}
 use Rattle.hall_core.specs.declared.world.World.{World}
 use Rattle.hall_core.proofs.GoodWorlds.{good-seat}
-use Rattle.hall_core.proofs.SeatsMoved.{set-again, with_stakes}
+use Rattle.hall_core.proofs.SeatsMoved.{with_stakes}
 use Rattle.hall_core.proofs.StakeLists.{exchanges-append}
 
 -- the seats with the stakes of one moved to another
@@ -89,7 +90,7 @@ module _ (old : World) (actor other : ℕ) (may : Allows old actor (event.Join o
           moved = exchanges-append may.0.stakes may.0.stakes [] may.2.1.stakes (λ x. refl);
           now = ap (λ xs. record old { seats = xs }) (
               ap₂ (λ xs y. set xs other (with_end y)) are-moved read
-              ∙ set-again old.seats other actor (with_stakes [] may.2.1)
+              ∙ set_again old.seats other actor (with_stakes [] may.2.1)
               (with_stakes (may.0.stakes ++ may.2.1.stakes) may.0) (with_end (with_stakes [] may.2.1)) apart
               ∙ ap₂ (λ y z. set (set old.seats other y) actor z) (end-is may.2.1 theirs)
               (join-is may.0 may.2.1 (may.0.stakes ++ may.2.1.stakes) mine theirs)

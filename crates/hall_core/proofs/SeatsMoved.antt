@@ -1,23 +1,11 @@
 -- Seats of which two have changed.
 use Rattle.std.proofs.Common.{◌≡◌, ◌≢◌, ℕ, ◌<◌, List, [], ◌++◌, Some, sym, ap}
 use Rattle.std.proofs.Common.{◌∙◌, arith, length, get_or, set, slice_get}
-use Rattle.std.proofs.lemmas.List.{get_or-set_other, get_or-set_same, length-set, set-get_or, set-set}
-use Rattle.std.proofs.lemmas.List.{set_comm}
+use Rattle.std.proofs.lemmas.List.{get_or-set_other, get_or-set_same, length-set, set-get_or}
 use Rattle.std.proofs.lemmas.Option.{get_or_from_slice_get}
+use Rattle.list_lemmas.proofs.Positions.{set_twice}
 use Rattle.node_key.specs.declared.stake.Stake.{Stake}
 use Rattle.hall_core.specs.declared.world.SeatView.{SeatView}
-
--- two places of a list are written, and then the first of them once more
-pub set-again : {X : Type 0} (xs : List X) (i j : ℕ) (p q r : X) → i ≢ j
-    → set (set (set xs i p) j q) i r ≡ set (set xs i r) j q
-set-again xs i j p q r apart =
-    set_comm (set xs i p) j i q r (λ e. apart (sym e)) ∙ ap (λ ys. set ys j q) (set-set xs i p r)
-
--- two places of a list, of which each is written twice
-pub set-twice : {X : Type 0} (xs : List X) (i j : ℕ) (p q r s : X) → i ≢ j
-    → set (set (set (set xs i p) j q) j r) i s ≡ set (set xs i s) j r
-set-twice xs i j p q r s apart =
-    ap (λ ys. set ys i s) (set-set (set xs i p) j q r) ∙ set-again xs i j p r s apart
 
 -- the seat with these stakes
 abbrev pub with_stakes : List Stake → SeatView → SeatView
@@ -66,7 +54,7 @@ module _ (xs : List SeatView) (i j : ℕ) (x x' y y' : SeatView) (p q r s : List
     written =
         ap (λ z. set (set twice j (with_stakes r y')) i (with_stakes s z)) first-again
         ∙ ap (λ z. set (set twice j (with_stakes r z)) i (with_stakes s x)) second-again
-        ∙ set-twice xs i j (with_stakes p x) (with_stakes q y) (with_stakes r y) (with_stakes s x) apart
+        ∙ set_twice xs i j (with_stakes p x) (with_stakes q y) (with_stakes r y) (with_stakes s x) apart
 
     -- where they went from one seat to the other
     pub moved : (a b : SeatView) → slice_get xs i ≡ Some a → slice_get xs j ≡ Some b → s ≡ []

@@ -4,10 +4,11 @@ use Rattle.std.proofs.Common.{arith, zero-lt-suc}
 use Rattle.std.specs.List.{sum_by}
 use Rattle.std.proofs.lemmas.List.Edits.{length-remove}
 use Rattle.std.proofs.lemmas.List.Sums.{sum_by-cons, sum_by-remove}
+use Rattle.list_lemmas.proofs.Booleans.{one_if}
 use Rattle.node_key.specs.Stakes.{Exchanges, HasStakes, same_stake}
 use Rattle.node_key.specs.declared.stake.Stake.{Stake}
-use Rattle.store_laws.proofs.SumsOfStakes.{among_held, one_if, sum_exchanged}
-use Rattle.hall_core.proofs.SeatStakes.{times-append}
+use Rattle.node_key.proofs.StakeLaws.{times-append}
+use Rattle.store_laws.proofs.SumsOfStakes.{among_held, sum_exchanged}
 
 -- one for each stake adds up to how many there are
 sum-ones : (xs : List Stake) → sum_by (λ (x : Stake). 1) xs ≡ length xs

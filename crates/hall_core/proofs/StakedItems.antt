@@ -6,6 +6,7 @@ use Rattle.std.specs.List.{AllZip}
 use Rattle.std.proofs.lemmas.List.{drop_all}
 use Rattle.std.proofs.lemmas.List.Elements.{All-cons, All-nil}
 use Rattle.std.proofs.lemmas.List.Sums.{sum_by-append, sum_by-cons}
+use Rattle.std.proofs.lemmas.List.{drop_more}
 use Rattle.node_key.specs.Branches.{kids_of}
 use Rattle.node_key.specs.Items.{FitBetween, branches_from, node}
 use Rattle.node_key.specs.Stakes.{stake}
@@ -50,10 +51,6 @@ spans_within key =
       sum_by-append f (kids_in key) (drop key.len key.kids),
     )
 
--- the next kid is the first of those that are left
-next_kid : (ks : List Kid) (i : ℕ) (d : Kid) → i < length ks → drop i ks ≡ get_or ks i d ∷ drop (i + 1) ks
-next_kid ks i d below = drop-cons ks i d below ∙ ap (λ n. get_or ks i d ∷ drop n ks) (sym (add-one i))
-
 -- where the next kid lies
 next_time : (stakes : List Stake) (key : NodeKey) (items : List Item) (from i : ℕ) (d : Kid)
     → ItemsSoFar stakes key items from i → i < length (kids_in key)
@@ -64,7 +61,7 @@ next_time stakes key items from i d s below =
     omega (
       arith,
       s.time,
-      ap spans (next_kid (kids_in key) i d below),
+      ap spans (drop_more (kids_in key) i d below),
       sum_by-cons (λ (k : Kid). k.gap + k.span) k (drop (i + 1) (kids_in key)),
     )
 
@@ -105,7 +102,7 @@ items-more stakes key items items' from from' i d u v one s below there copied m
             ∙ ap (λ (w : Tree). items ++ record { at = from + k.gap; tree = w }
             ∷ rest (from + k.gap + k.span)) (sym same)
             ∙ ap (λ (xs : List Stake). items ++ items_over from (k ∷ drop (i + 1) ks) xs) (sym left)
-            ∙ ap (λ (js : List Kid). items ++ items_over from js (drop i kids)) (sym (next_kid ks i d below))
+            ∙ ap (λ (js : List Kid). items ++ items_over from js (drop i kids)) (sym (drop_more ks i d below))
             ∙ (s.over t kids staked).so_far;
       };
 }

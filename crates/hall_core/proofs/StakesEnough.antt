@@ -5,11 +5,13 @@ use Rattle.std.specs.List.{AllZip}
 use Rattle.std.proofs.lemmas.Bool.{cases_Bool, cases_eq, eq-eqb, ne_eqb}
 use Rattle.std.proofs.lemmas.List.Elements.{Contains-append_right}
 use Rattle.std.proofs.lemmas.List.Sums.{sum_by-cons}
+use Rattle.list_lemmas.proofs.Booleans.{one_if}
 use Rattle.node_key.specs.Stakes.{HasStakes, same_stake, times}
 use Rattle.node_key.specs.declared.key.Kid.{Kid}
 use Rattle.node_key.specs.declared.stake.Stake.{Stake}
+use Rattle.node_key.proofs.StakeLaws.{same_stake-refl}
 use Rattle.store_laws.specs.Counted.{stakes_on}
-use Rattle.store_laws.proofs.SumsOfStakes.{on_cons, one_if, same_stake-refl, same_stake-true}
+use Rattle.store_laws.proofs.SumsOfStakes.{on_cons, same_stake-true}
 use Rattle.store_laws.proofs.SumsOfStakes.{there_from_times}
 use Rattle.hall_core.specs.OneTree.{OneTreeEach}
 use Rattle.hall_core.proofs.TreeOverStakes.{IsKidStake, kid_of, stake_on}

@@ -16,7 +16,7 @@ use Rattle.shard_core.specs.declared.answers.Dropped.TheVariants.{Kept, Removed}
 use Rattle.store_laws.specs.Store.{IsCanonic, Store, key_in, node_in}
 use Rattle.store_laws.proofs.CanonicTrees.{one_tree}
 use Rattle.store_laws.proofs.StepsInRooms.{node_in_room}
-use Rattle.store_laws.proofs.StepsOfShape.{key_of_stored, stored_of_key}
+use Rattle.store_laws.proofs.CanonicKeys.{key_of_node, node_of_key}
 use Rattle.hall_core.specs.Answering.{WouldFree}
 use Rattle.hall_core.specs.Steps.{AreFreed, DropsIn}
 use Rattle.hall_core.proofs.RoomsThere.{room-of-number}
@@ -31,7 +31,7 @@ pub record NodeOf (rooms : Store) (n : ℕ) (t : Tree) : Type 0 where
 -- a number that stands for a tree has a node
 pub node-of : (rooms : Store) (n : ℕ) (t : Tree) → Stands (key_in rooms) n t → NodeOf rooms n t
 node-of rooms n t (key, ns, at, is, kids) =
-    let found = stored_of_key rooms n key at in
+    let found = node_of_key rooms n key at in
     record {
       stored = found.0;
       there = found.1;
@@ -42,7 +42,7 @@ node-of rooms n t (key, ns, at, is, kids) =
 -- the key of a node is the one that is found
 pub key-is : (rooms : Store) (n : ℕ) (key : NodeKey) (s : Stored) → key_in rooms n ≡ Some key
     → node_in rooms n ≡ Some s → s.key ≡ key
-key-is rooms n key s at there = same_Some s.key key (sym (key_of_stored rooms n s there) ∙ at)
+key-is rooms n key s at there = same_Some s.key key (sym (key_of_node rooms n s there) ∙ at)
 
 -- its count is the one that is found
 pub count-is : (rooms : Store) (n count : ℕ) (s : Stored)

@@ -4,13 +4,15 @@ use Rattle.std.proofs.Common.{length, take, swap_remove, get_or, ap, sym, subst,
 use Rattle.std.proofs.lemmas.List.{take_all, take_more}
 use Rattle.std.proofs.lemmas.List.Elements.{All-contains, All-same}
 use Rattle.std.proofs.lemmas.List.Sums.{sum_by-append, sum_by-swap_remove, sum_by-take-le}
+use Rattle.list_lemmas.proofs.Booleans.{one_if}
 use Rattle.node_key.specs.Stakes.{Exchanges, same_stake, times}
 use Rattle.node_key.specs.Tree.{Tree}
 use Rattle.node_key.specs.declared.key.Kid.{Kid}
 use Rattle.node_key.specs.declared.key.NodeKey.{NodeKey}
 use Rattle.node_key.specs.declared.stake.Stake.{Stake}
+use Rattle.node_key.proofs.StakeLaws.{same_stake-refl}
 use Rattle.store_laws.specs.Store.{kids_in}
-use Rattle.store_laws.proofs.SumsOfStakes.{from_either, one_if, same_stake-refl, there_from_times}
+use Rattle.store_laws.proofs.SumsOfStakes.{from_either, there_from_times}
 use Rattle.hall_core.specs.OneTree.{IsStakedTree, OneTreeEach}
 use Rattle.hall_core.proofs.TreeOverStakes.{StakeAt, as_long, stake_at, tree_over}
 

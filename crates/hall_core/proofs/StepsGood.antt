@@ -3,10 +3,11 @@ use Rattle.std.proofs.Common.{◌≡◌, ◌≢◌, ◌++◌, ℕ, max, false, L
 use Rattle.std.proofs.Common.{ap, ◌∙◌, arith, slice_get, slice_set, subst}
 use Rattle.std.proofs.lemmas.Bool.{true≢false}
 use Rattle.std.proofs.lemmas.List.Elements.{All-push, All-set}
+use Rattle.list_lemmas.proofs.Positions.{slice_get-set_other}
 use Rattle.node_key.specs.declared.stake.Stake.{Stake}
-use Rattle.registry_core.proofs.LawTraces.{get_set_other}
 use Rattle.store_laws.specs.Counted.{IsStore}
 use Rattle.store_laws.specs.Store.{Store}
+use Rattle.store_laws.proofs.StoreExchanged.{store_exchanged}
 use Rattle.hall_core.specs.Allowed.{Allows}
 use Rattle.hall_core.specs.Steps.{AddsSeat, ChangesStore, DropsIn, InternsIn, IsStep, JoinsSeats, ended_seat}
 use Rattle.hall_core.specs.World.{HasSeenNothing, IsGood, all_stakes, empty_seat}
@@ -18,7 +19,7 @@ use Rattle.hall_core.specs.declared.events.StepAnswer.TheVariants as answer
 use Rattle.hall_core.specs.declared.world.SeatView.{SeatView}
 use Rattle.hall_core.specs.declared.world.World.{World}
 use Rattle.hall_core.proofs.GoodWorlds.{good-seat}
-use Rattle.hall_core.proofs.KeptStores.{dropped, interned, moved}
+use Rattle.hall_core.proofs.KeptStores.{dropped, interned}
 use Rattle.hall_core.proofs.SeatStakes.{exchanges-apart, exchanges-push, exchanges-set, exchanges-together}
 use Rattle.hall_core.proofs.SeatStakes.{of_others}
 
@@ -35,9 +36,10 @@ store_after : (seats : List SeatView) (i : ℕ) (seat : SeatView)
     → IsStore rooms' (all_stakes (slice_set seats i (record seat { stakes = mine })))
 store_after seats i seat Change rooms rooms' mine keeps at store changed =
     let others = of_others seats i seat in
-    moved rooms' (mine ++ others) (all_stakes (slice_set seats i (record seat { stakes = mine })))
+    store_exchanged rooms' (mine ++ others) (all_stakes (slice_set seats i (record seat { stakes = mine })))
     (keeps rooms rooms' seat.stakes mine others
-    (moved rooms (all_stakes seats) (seat.stakes ++ others) store (exchanges-apart seats i seat at)) changed)
+    (store_exchanged rooms (all_stakes seats) (seat.stakes
+    ++ others) store (exchanges-apart seats i seat at)) changed)
     (exchanges-together seats i seat mine at)
 
 -- a seat that hasn't ended may have any stakes
@@ -69,7 +71,7 @@ changed-good old new actor Change keeps good is =
 added-good : (old new : World) (actor : ℕ) → IsGood old → AddsSeat old actor new → IsGood new
 added-good old new actor good is =
     subst IsGood (sym is.now) (record {
-      store = moved old.state.shards (all_stakes old.seats)
+      store = store_exchanged old.state.shards (all_stakes old.seats)
           (all_stakes (old.seats ++ empty_seat is.seat.seen ∷ [])) good.store
           (exchanges-push old.seats (empty_seat is.seat.seen));
       memos = good.memos;
@@ -119,9 +121,10 @@ joined-good old new actor other good apart is =
     let first = slice_set old.seats other (ended_seat is.joined) in
     let last = joined_seat is.seat is.joined is.stakes in
     let stays : slice_get first actor ≡ Some is.seat =
-    get_set_other old.seats other actor (ended_seat is.joined) apart ∙ is.acts.there in
+    slice_get-set_other old.seats other actor (ended_seat is.joined) apart ∙ is.acts.there in
     subst IsGood (sym is.now) (record {
-      store = moved old.state.shards (all_stakes old.seats) (all_stakes (slice_set first actor last))
+      store = store_exchanged old.state.shards (all_stakes old.seats) (all_stakes (slice_set first actor
+          last))
           good.store (λ x. omega (
             arith,
             exchanges-set old.seats other is.joined (ended_seat is.joined) is.was_active.there x,

@@ -1,5 +1,6 @@
 -- What a seat's event does in the store and in its stakes, as a step of the world.
 use Rattle.std.proofs.Common.{◌≡◌, ℕ, List, ap, ◌∙◌, get_or, slice_set, subst}
+use Rattle.list_lemmas.proofs.Positions.{read_is, set_same}
 use Rattle.node_key.specs.declared.key.NodeKey.{NodeKey}
 use Rattle.node_key.specs.declared.stake.Stake.{Stake}
 use Rattle.store_laws.specs.Store.{Store}
@@ -11,7 +12,6 @@ use Rattle.hall_core.specs.declared.events.StepAnswer.{StepAnswer}
 use Rattle.hall_core.specs.declared.events.StepAnswer.TheVariants as answer
 use Rattle.hall_core.specs.declared.world.SeatView.{SeatView}
 use Rattle.hall_core.specs.declared.world.World.{World}
-use Rattle.hall_core.proofs.PutBack.{read-is, set-same}
 
 -- the rooms and stakes that were there before make no other world
 pub same-store : (w : World) (actor : ℕ) (seat : SeatView) (rooms : Store) (stakes : List Stake)
@@ -19,13 +19,13 @@ pub same-store : (w : World) (actor : ℕ) (seat : SeatView) (rooms : Store) (st
     → with_store w actor seat rooms stakes ≡ w
 same-store w actor seat rooms stakes acts (same_rooms, same_stakes) =
     (λ i. with_store w actor seat (same_rooms i) (same_stakes i))
-    ∙ (λ i. record w { seats = set-same w.seats actor seat acts.there i })
+    ∙ (λ i. record w { seats = set_same w.seats actor seat acts.there i })
 
 -- the seat that was lent acts
 pub lent-acts : (w : World) (actor : ℕ) (seat lent : SeatView) (kept : List SeatView) → IsActive w actor seat
     → kept ≡ w.seats → lent ≡ get_or kept actor lent → IsActive w actor lent
 lent-acts w actor seat lent kept acts same is =
-    subst (IsActive w actor) (read-is w.seats kept actor seat lent acts.there same is) acts
+    subst (IsActive w actor) (read_is w.seats kept actor seat lent acts.there same is) acts
 
 -- the rooms and the stakes that were lent, put back
 pub put-back : (w : World) (actor : ℕ) (lent : SeatView) (rooms : Store) (stakes : List Stake)

@@ -11,6 +11,7 @@ use Rattle.node_key.specs.declared.key.Kid.{Kid}
 use Rattle.node_key.specs.declared.key.NodeKey.{NodeKey}
 use Rattle.node_key.specs.declared.stake.Stake.{Stake}
 use Rattle.node_key.specs.declared.limits.TheConstants.{HEIGHT_BOUND}
+use Rattle.node_key.proofs.Numbering.{length-numbered}
 use Rattle.store_laws.specs.Store.{kids_in}
 use Rattle.store_laws.proofs.SumsOfStakes.{among_held}
 use Rattle.hall_core.specs.OneTree.{IsStakedTree, OneTreeEach}
@@ -66,14 +67,6 @@ pub record IsTreeOver (stakes : List Stake) (key : NodeKey) (t : Tree) (kids : L
   pub kids_are : t.kids ≡ kids_over (kids_in key) kids
   pub len : length (kids_in key) ≡ key.len
   pub high : key.height ≡ height_above (kids_over (kids_in key) kids)
-
--- a key has as many kids as the tree
-length-numbered : (kids : Kids) (ns : List ℕ) → length ns ≡ count kids
-    → length (numbered kids ns) ≡ count kids
-length-numbered no_kids ns same = refl
-length-numbered (kid gap func dur inner more) [] same = absurd (omega arith)
-length-numbered (kid gap func dur inner more) (n ∷ ns) same =
-    omega (arith, length-numbered more ns (omega arith))
 
 -- a staked tree is over the stakes on its kids
 pub tree_over : (stakes : List Stake) (key : NodeKey) (t : Tree) (kids : List Stake)

@@ -13,8 +13,6 @@ mod run;
 mod seats;
 mod stakes;
 mod stepping;
-#[cfg(test)]
-mod tests;
 mod world;
 
 pub use allowed::allows;

@@ -5,8 +5,9 @@ ghost use Rattle.hall_core.specs.World.{empty_seat, new_state, new_world};
 ghost use Rattle.store_laws.specs.Store.{empty_store};
 
 use crate::limits::MEMO_ROOMS;
+use hall_history::{PassView, PinView};
 use memo_core::Memo;
-use node_key::{PassView, PinView, STORE_ROOMS, Stake};
+use node_key::{STORE_ROOMS, Stake};
 use registry_core::Registry;
 use shard_core::Shard;
 use std::alloc::Global;

@@ -15,9 +15,9 @@ use Rattle.trace_base.specs.contracts.names.Container as container
 use Rattle.trace_base.specs.contracts.names.Track as track
 use Rattle.trace_base.specs.contracts.names.TraceInfo as info
 use Rattle.trace_base.specs.contracts.stream.TrackStream as stream
-use Rattle.node_key.specs.History.{Entry, EntryOf, Opened, Published, Sealed, Dropped, Closed, Asked}
-use Rattle.node_key.specs.History.{FitsTrack, IsTrackTree, MayFollow, IsLegalHistory, PublishedTree, info_of}
-use Rattle.node_key.specs.History.{published_tree, stream_published}
+use Rattle.hall_history.specs.History.{Entry, EntryOf, Opened, Published, Sealed, Dropped, Closed, Asked}
+use Rattle.hall_history.specs.History.{FitsTrack, IsTrackTree, MayFollow, IsLegalHistory, PublishedTree}
+use Rattle.hall_history.specs.History.{info_of, published_tree, stream_published}
 use Rattle.node_key.specs.Tree.{Tree, tree_code}
 use Rattle.hall_trait.proofs.PublishedStreams.{stream_read_back}
 

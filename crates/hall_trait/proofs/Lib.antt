@@ -1,4 +1,2 @@
 pub mod HistoryProps
-pub mod Legal
 pub mod PublishedStreams
-pub mod Samples

@@ -2,7 +2,7 @@
 use Rattle.std.proofs.Common.{◌≡◌, ◌+◌, arith}
 use Rattle.trace_base.specs.Stream.{IsLegal}
 use Rattle.trace_base.specs.declared.stream.TrackStream.{TrackStream}
-use Rattle.node_key.specs.History.{published_tree, stream_published}
+use Rattle.hall_history.specs.History.{published_tree, stream_published}
 use Rattle.node_key.specs.Trees.{tree}
 use Rattle.call_tree.proofs.TheLaw.{end-start, trees_keep_events}
 

@@ -5,16 +5,16 @@ use Rattle.std.specs.Prelude.{Option, Some, Result, Ok, Err, IsTrue}
 use Rattle.std.specs.Bool.{OnTrue}
 use Rattle.std.specs.List.{AllZip}
 use Rattle.trace_base.specs.Outside.{Told}
-use Rattle.trace_base.specs.declared.asks.AskIds.{AskIds}
-use Rattle.trace_base.specs.declared.asks.AskIds.TheVariants.{One, Two}
+use Rattle.hall_history.specs.declared.asks.AskIds.{AskIds}
+use Rattle.hall_history.specs.declared.asks.AskIds.TheVariants.{One, Two}
 use Rattle.trace_base.specs.declared.limits.TheConstants.{MAX_OPEN_TRACES, MAX_PLACES}
 use Rattle.trace_base.specs.declared.names.TraceInfo.{TraceInfo}
 use Rattle.trace_base.specs.declared.stream.TrackStream.{TrackStream}
-use Rattle.node_key.specs.History.{Entry, EntryOf, Opened, Published, Sealed, Dropped, Closed, Asked}
-use Rattle.node_key.specs.History.{FitsTrack, next_id, info_of, is_open, open_ids, tracks_of}
-use Rattle.node_key.specs.History.{promised, published_tree}
-use Rattle.node_key.specs.Seat.{Seat, MakesEntry, Adds, Becomes}
-use Rattle.node_key.specs.declared.seat.PassView.{PassView}
+use Rattle.hall_history.specs.History.{Entry, EntryOf, Opened, Published, Sealed, Dropped, Closed, Asked}
+use Rattle.hall_history.specs.History.{FitsTrack, next_id, info_of, is_open, open_ids, tracks_of}
+use Rattle.hall_history.specs.History.{promised, published_tree}
+use Rattle.hall_history.specs.Seat.{Seat, MakesEntry, Adds, Becomes}
+use Rattle.hall_history.specs.declared.seat.PassView.{PassView}
 use Rattle.node_key.specs.Stakes.{Exchanges, HasStakes, stake}
 use Rattle.node_key.specs.Trees.{tree}
 use Rattle.shard_core.specs.Room.{Room}

@@ -1,5 +1,4 @@
 pub mod Answers
-pub mod Examples
 pub mod Nodes
 pub mod Pass
 pub mod Pin

@@ -2,10 +2,10 @@
 use Rattle.std.specs.Prelude.{◌≡◌, ◌⊎◌, ℕ, List, [], ◌∷◌, slice_get, Option, None, Some, Result, Ok, Err}
 use Rattle.std.specs.List.{AllZip}
 use Rattle.node_key.specs.Branches.{branches}
-use Rattle.node_key.specs.History.{Entry, PublishedTree, IsTrackTree, published_of}
+use Rattle.hall_history.specs.History.{Entry, PublishedTree, IsTrackTree, published_of}
 use Rattle.node_key.specs.Keys.{IsKeyOf}
 use Rattle.node_key.specs.Rooms.{room}
-use Rattle.node_key.specs.Seat.{Seat, ExchangesStakes}
+use Rattle.hall_history.specs.Seat.{Seat, ExchangesStakes}
 use Rattle.node_key.specs.Stakes.{stake}
 use Rattle.node_key.specs.declared.stake.Stake.{Stake}
 use Rattle.node_key.specs.Tree.{Tree}
@@ -20,8 +20,8 @@ use Rattle.shard_core.specs.declared.answers.Interned.TheVariants.{Known, New}
 use Rattle.hall_trait.specs.Answers.{RecordsUsedUp, RecordsNone}
 use Rattle.hall_trait.specs.declared.answers.HallFault.{HallFault}
 use Rattle.hall_trait.specs.declared.answers.HallFault.TheVariants as fault
-use Rattle.trace_base.specs.declared.published.Published.{Published}
-use Rattle.trace_base.specs.declared.published.Published.TheVariants.{Root, NotYet}
+use Rattle.hall_history.specs.declared.published.Published.{Published}
+use Rattle.hall_history.specs.declared.published.Published.TheVariants.{Root, NotYet}
 
 -- The number is used up for this key: it is how many numbers a room gives, or the greatest count. Where the
 -- hall tells the rooms of its store, it is so in the key's room.

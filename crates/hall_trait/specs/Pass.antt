@@ -1,8 +1,8 @@
 -- How far a load pass has come.
 use Rattle.std.specs.Prelude.{◌≡◌, ℕ, ◌+◌, ◌-◌, ◌==◌, if◌then◌else◌}
-use Rattle.trace_base.specs.declared.asks.PassState.{PassState}
-use Rattle.trace_base.specs.declared.asks.PassState.TheVariants.{Straight, Whole, Broken}
-use Rattle.node_key.specs.declared.seat.PassView.{PassView}
+use Rattle.hall_history.specs.declared.asks.PassState.{PassState}
+use Rattle.hall_history.specs.declared.asks.PassState.TheVariants.{Straight, Whole, Broken}
+use Rattle.hall_history.specs.declared.seat.PassView.{PassView}
 use Rattle.hall_trait.specs.declared.pass.LoadPass.{LoadPass}
 
 -- the pass as its seat has it

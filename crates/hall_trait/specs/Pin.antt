@@ -1,9 +1,9 @@
 -- The traces of a pin.
 use Rattle.std.specs.Prelude.{ℕ, ◌==◌, if◌then◌else◌}
-use Rattle.trace_base.specs.declared.asks.AskIds.{AskIds}
-use Rattle.trace_base.specs.declared.asks.AskIds.TheVariants.{One, Two}
-use Rattle.trace_base.specs.declared.names.Brief.{Brief}
-use Rattle.node_key.specs.declared.seat.PinView.{PinView}
+use Rattle.hall_history.specs.declared.asks.AskIds.{AskIds}
+use Rattle.hall_history.specs.declared.asks.AskIds.TheVariants.{One, Two}
+use Rattle.hall_history.specs.declared.brief.Brief.{Brief}
+use Rattle.hall_history.specs.declared.seat.PinView.{PinView}
 use Rattle.hall_trait.specs.declared.pin.Pin.{Pin}
 
 -- the first trace that is asked for

@@ -3,10 +3,10 @@ ghost use Rattle.std.specs.Prelude.{Contains, IfOk, IfErr};
 ghost use Rattle.std.specs.Arc.{arc_value};
 ghost use Rattle.std.specs.Bool.{OnTrue};
 ghost use Rattle.trace_base.specs.Info.{IsLegalInfo};
-ghost use Rattle.trace_base.specs.declared.asks.PassState.TheVariants.{Whole};
+ghost use Rattle.hall_history.specs.declared.asks.PassState.TheVariants.{Whole};
 ghost use Rattle.trace_base.specs.declared.stream.TrackStream.{TrackStream};
-ghost use Rattle.node_key.specs.History.{Sealed, Dropped, IsLegalHistory, info_of};
-ghost use Rattle.node_key.specs.Seat.{Seat, ExchangesStakes, MakesNoEntry, Removes};
+ghost use Rattle.hall_history.specs.History.{Sealed, Dropped, IsLegalHistory, info_of};
+ghost use Rattle.hall_history.specs.Seat.{Seat, ExchangesStakes, MakesNoEntry, Removes};
 ghost use Rattle.node_key.specs.Stakes.{HasStakes, IsOverStakes, stake};
 ghost use Rattle.node_key.specs.declared.stake.Stake.{Stake};
 ghost use Rattle.node_key.specs.Tree.{Tree};
@@ -23,11 +23,12 @@ ghost use Rattle.hall_trait.specs.declared.answers.HallFault.TheVariants.{Memory
 use crate::answers::{AskAnswer, HallFault};
 use crate::pass::LoadPass;
 use crate::pin::Pin;
+use hall_history::{AskIds, Published};
 use node_key::NodeKey;
 use shard_core::Interned;
 use std::alloc::Global;
 use std::sync::{Arc, Wait};
-use trace_base::{AskIds, Published, TraceInfo};
+use trace_base::TraceInfo;
 
 /// A seat of a hall, which keeps the open traces as nodes, equal subtrees once. All seats of a hall share one
 /// history. Between two calls of this seat others may act, so what it has seen begins what it sees next.

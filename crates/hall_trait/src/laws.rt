@@ -3,7 +3,7 @@
 ghost use Rattle.std.specs.Prelude.{◌≡◌};
 ghost use Rattle.trace_base.specs.Stream.{IsLegal};
 ghost use Rattle.trace_base.specs.declared.stream.TrackStream.{TrackStream};
-ghost use Rattle.node_key.specs.History.{published_tree, stream_published};
+ghost use Rattle.hall_history.specs.History.{published_tree, stream_published};
 
 /// A legal stream is read off the start and the tree that are published of it.
 #[tactic(auto, using(crate::proofs::PublishedStreams::stream_read_back))]

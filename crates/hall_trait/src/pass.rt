@@ -1,7 +1,7 @@
 ghost use Rattle.std.specs.Prelude.{◌≡◌};
 ghost use Rattle.hall_trait.specs.Pass.{state_at};
 
-use trace_base::PassState;
+use hall_history::PassState;
 
 // How far a pass up to track `to` has come whose next track is this one.
 fn state_of(next: u32, to: u32) -> PassState

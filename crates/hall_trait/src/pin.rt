@@ -1,4 +1,4 @@
-use trace_base::{AskIds, Brief};
+use hall_history::{AskIds, Brief};
 
 /// The hold of a running query on one or two traces, as of a place of the history. It is given back by
 /// `unpin`, and can't be dropped. In a pin on one trace `second` equals `first`.

@@ -1,6 +1,6 @@
 -- A pair put into the cache: an entry filled in, and the least recently used one gone where they are too
 -- many.
-use Rattle.std.proofs.Common.{◌≡◌, ℕ, zero, suc, ◌-◌, ◌+◌, Bool, true≢false, map, is_some}
+use Rattle.std.proofs.Common.{◌≡◌, ℕ, ◌-◌, ◌+◌, Bool, true≢false, map, is_some}
 use Rattle.std.proofs.Common.{List, [], ◌∷◌, ◌++◌, length, take, drop, reverse}
 use Rattle.std.proofs.Common.{Option, Some, None, refl, sym, ap, ◌∙◌, arith}
 use Rattle.std.specs.List.{find}
@@ -9,6 +9,7 @@ use Rattle.std.specs.Option.{option_map, option_map_or}
 use Rattle.std.proofs.lemmas.List.{length-append, length-reverse, drop-append-le}
 use Rattle.lru.specs.LruCache.{LruCache, put_entries}
 use Rattle.lru.proofs.CallerLemmas.{Contains-lookup_entry}
+use Rattle.std.proofs.lemmas.List.{take-map}
 use Rattle.memo_core.proofs.Lists.{none_found, reverse-one_more, reverse-take}
 use Rattle.memo_core.proofs.CachedItems.{entry_cached, value_of_entry, put_first}
 use Rattle.memo_core.proofs.MemoSteps.{nothing_goes}
@@ -39,11 +40,6 @@ one_more items n kind e keep all new =
     ∙ ap (λ (l : List MemoItem). most_recent (l ++ item ∷ []))
     (sym (none_found (is_item_of n kind) items (no_item (find (is_item_of n kind) items) new)))
 
-map-take : {X Y : Type 0} (f : X → Y) (n : ℕ) (xs : List X) → map f (take n xs) ≡ take n (map f xs)
-map-take f zero xs = refl
-map-take f (suc n) [] = refl
-map-take f (suc n) (x ∷ xs) = ap (λ l. f x ∷ l) (map-take f n xs)
-
 module _ (eq : MemoKey → MemoKey → Bool) (c : LruCache MemoKey Entry) (k : MemoKey) (v : Entry)
     (tells : (e : MemoKey × Entry) → eq k e.0 ≡ is_item_of k.number k.kind (memo_item e))
     (valid : IsMemo (memo_items c.entries)) (cap : c.cap ≡ MEMO_ENTRIES) where
@@ -58,7 +54,7 @@ module _ (eq : MemoKey → MemoKey → Bool) (c : LruCache MemoKey Entry) (k : M
       ≡ most_recent (with_recent (memo_items c.entries) k.number k.kind v)
   cases None is =
       reverse-one_more (memo_item (k, v)) (map memo_item (take (c.cap - 1) c.entries))
-      ∙ ap (λ l. l ++ memo_item (k, v) ∷ []) (ap reverse (map-take memo_item (c.cap - 1) c.entries)
+      ∙ ap (λ l. l ++ memo_item (k, v) ∷ []) (ap reverse ((sym (take-map memo_item (c.cap - 1) c.entries)))
       ∙ reverse-take (c.cap - 1) (map memo_item c.entries)
       ∙ ap (λ (j : ℕ). drop (j - (c.cap - 1)) (memo_items c.entries))
       (sym (length-reverse (map memo_item c.entries))))

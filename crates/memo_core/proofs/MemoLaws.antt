@@ -1,5 +1,5 @@
 -- What a room has for a number and a kind after one entry was put last.
-use Rattle.std.proofs.Common.{◌≡◌, ℕ, ◌≤◌, ◌<◌, ◌-◌, Bool, true, false, cond, not, true≢false}
+use Rattle.std.proofs.Common.{◌≡◌, ℕ, ◌<◌, ◌-◌, Bool, true, false, cond, not, true≢false}
 use Rattle.std.proofs.Common.{List, [], ◌∷◌, ◌++◌, length, drop, filter, IsSome, ◌⊎◌, inl, inr, slice_get}
 use Rattle.std.proofs.Common.{Some, None, refl, sym, ap, subst, ◌∙◌, arith}
 use Rattle.std.proofs.Common.{◌&&◌, eq-eqb}
@@ -8,6 +8,8 @@ use Rattle.std.specs.Option.{option_map}
 use Rattle.std.proofs.lemmas.Bool.{cases_Bool}
 use Rattle.std.proofs.lemmas.List.{length-append, drop-append-le}
 use Rattle.std.proofs.lemmas.List.Elements.{filter-append}
+use Rattle.std.proofs.lemmas.Bool.{false_from_ne_true}
+use Rattle.list_lemmas.proofs.Fronts.{no_items}
 use Rattle.memo_core.proofs.CachedItems.{item_under}
 use Rattle.memo_core.proofs.CachedPut.{one_more}
 use Rattle.memo_core.proofs.Lists.{find_is_first, filter-drop_le, find-drop, none_left}
@@ -18,10 +20,6 @@ use Rattle.memo_core.specs.declared.entry.Entry.{Entry}
 use Rattle.memo_core.specs.declared.limits.TheConstants.{MEMO_ENTRIES}
 use Rattle.memo_core.specs.declared.memo_kind.MemoKind.{MemoKind}
 use Rattle.memo_core.specs.declared.memo_kind.MemoKind.TheVariants.{Flat, Paths}
-
-no_items : {X : Type 0} (xs : List X) → length xs ≤ 0 → xs ≡ []
-no_items [] h = refl
-no_items (x ∷ xs) h = absurd (omega arith)
 
 module _ {X : Type 0} (q : X → Bool) where
   -- the last of a list is found where no other one passes
@@ -54,10 +52,6 @@ same_self : (kind : MemoKind) → same_kind kind kind ≡ true
 same_self Flat = refl
 same_self Paths = refl
 
-not_true : (b : Bool) → (b ≡ true → ⊥) → b ≡ false
-not_true true h = absurd (h refl)
-not_true false h = refl
-
 module _ (items : List MemoItem) (n : ℕ) (kind : MemoKind) (e : Entry) where
   abbrev item : MemoItem
   item = record { number = n; kind = kind; entry = e }
@@ -87,7 +81,7 @@ module _ (items : List MemoItem) (n : ℕ) (kind : MemoKind) (e : Entry) where
 
   module _ (m : ℕ) (other : MemoKind) (apart : is_item_of m other item ≡ false) where
     apart_items : (i : MemoItem) → is_item_of m other i ≡ true → is_item_of n kind i ≡ false
-    apart_items i passes = not_true (is_item_of n kind i) (λ both.
+    apart_items i passes = false_from_ne_true (is_item_of n kind i) (λ both.
         true≢false (sym (subst (λ j. is_item_of m other j ≡ true) (item_under n kind i both) passes) ∙ apart))
 
     -- with nothing gone, others are as before

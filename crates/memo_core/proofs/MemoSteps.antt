@@ -1,5 +1,5 @@
 -- A room after an entry was looked up or filled in: what holds of a room still holds.
-use Rattle.std.proofs.Common.{◌≡◌, ℕ, zero, suc, ◌≤◌, ◌-◌, ◌+◌, Bool, true, false, cond, not, true≢false}
+use Rattle.std.proofs.Common.{◌≡◌, ℕ, ◌≤◌, ◌-◌, ◌+◌, Bool, true, false, cond, not, true≢false}
 use Rattle.std.proofs.Common.{All, is_some}
 use Rattle.std.proofs.Common.{List, [], ◌∷◌, length, drop, filter, IsSome}
 use Rattle.std.proofs.Common.{Option, Some, None, IfSome, unwrap_or, refl, sym, ap, subst, ◌∙◌, arith}
@@ -7,6 +7,7 @@ use Rattle.std.specs.List.{find}
 use Rattle.std.specs.Option.{option_map}
 use Rattle.std.proofs.lemmas.List.{length-append, length-drop}
 use Rattle.std.proofs.lemmas.List.Elements.{All-append, All-filter, All-drop, filter-append}
+use Rattle.list_lemmas.proofs.All.{All-one}
 use Rattle.memo_core.proofs.Lists.{filter-filter_le, filter-drop_le, none_left, find_has, found_counts}
 use Rattle.memo_core.proofs.CachedItems.{item_under}
 use Rattle.memo_core.specs.Entry.{entry_kind, entry_rows}
@@ -15,10 +16,6 @@ use Rattle.memo_core.specs.Memo.{with_recent, most_recent}
 use Rattle.memo_core.specs.declared.entry.Entry.{Entry}
 use Rattle.memo_core.specs.declared.limits.TheConstants.{MEMO_ENTRIES, MEMO_ROWS}
 use Rattle.memo_core.specs.declared.memo_kind.MemoKind.{MemoKind}
-
-All-one : {X : Type 0} (P : X → Type 0) (x : X) → P x → All P (x ∷ [])
-All-one P x holds zero d h = holds
-All-one P x holds (suc k) d h = absurd (omega arith)
 
 -- an item that stands under two numbers and kinds: they are the same
 pub same_place : (n m : ℕ) (kind other : MemoKind) (e : Entry)

@@ -8,8 +8,6 @@ mod limits;
 mod memo;
 mod memo_key;
 mod memo_kind;
-#[cfg(test)]
-mod tests;
 
 pub use entry::Entry;
 pub use examples::{

@@ -1,30 +1,16 @@
 -- The messages of the first link events, one link event more.
-use Rattle.std.proofs.Common.{◌≡◌, ℕ, ◌+◌, ◌<◌, zero, suc, cond, List, [], ◌∷◌, ◌++◌, length, take, get_or}
+use Rattle.std.proofs.Common.{◌≡◌, ℕ, ◌+◌, ◌<◌, cond, List, length, take, get_or}
 use Rattle.std.proofs.Common.{map, filter, count_by, slice_get, Option, Some, None, option_map}
-use Rattle.std.proofs.Common.{option_and_then, refl, ap, sym, ◌∙◌, arith, add-zero, add-one}
-use Rattle.std.specs.List.{filter_map, range_with_len, cons_option}
-use Rattle.std.proofs.lemmas.List.Elements.{filter_map-append}
+use Rattle.std.proofs.Common.{option_and_then, refl, ap, sym, ◌∙◌, add-zero, add-one}
 use Rattle.std.proofs.lemmas.List.Sums.{length-filter, sum_by_more}
 use Rattle.std.proofs.lemmas.Option.{slice_get_read}
-use Rattle.trace_base.proofs.Ranges.{range_with_len-more}
+use Rattle.std.proofs.lemmas.Option.{slice_get-map}
 use Rattle.trace_base.specs.Messages.{message_at, message_from, message_between, starts_like, ends_like}
 use Rattle.trace_base.specs.declared.messages.LinkEvent.{LinkEvent}
 use Rattle.trace_base.specs.declared.messages.Message.{Message}
 use Rattle.message_lists.specs.Arrivals.{arrival_of, is_start_of, is_end_of}
 use Rattle.message_lists.specs.Started.{message_to}
 use Rattle.message_lists.specs.declared.arrivals.Arrival.{Arrival}
-
-pub filter_map-more : {X : Type 0} (h : ℕ → Option X) (n : ℕ) → filter_map h (range_with_len 0 (n + 1)) ≡
-    filter_map h (range_with_len 0 n) ++ cons_option (h n) []
-filter_map-more h n =
-    let same : 0 + n ≡ n = omega arith in
-    ap (filter_map h) (range_with_len-more 0 n n same) ∙ filter_map-append h (range_with_len 0 n) (n ∷ [])
-
-slice_get-map : {X Y : Type 0} (f : X → Y) (xs : List X) (k : ℕ) → slice_get (map f xs) k ≡ option_map f
-    (slice_get xs k)
-slice_get-map f [] k = refl
-slice_get-map f (x ∷ xs) zero = refl
-slice_get-map f (x ∷ xs) (suc k) = slice_get-map f xs k
 
 to_between : (l : LinkEvent) (o : Option LinkEvent) → option_map (message_to l) (option_map arrival_of o) ≡
     option_map (message_between l) o

@@ -6,20 +6,11 @@ use Rattle.std.specs.HashMap.{get_by}
 use Rattle.std.specs.Option.{option_map_or}
 use Rattle.std.specs.declared.alloc.Global.{Global}
 use Rattle.std.specs.declared.vec.Vec.{Vec}
-use Rattle.std.proofs.lemmas.Bool.{and_parts, eqb-true, true≢false}
+use Rattle.std.proofs.lemmas.Bool.{and_parts, eqb-true}
+use Rattle.std.specs.Cmp.Lexicographic.{same_text}
 use Rattle.message_lists.specs.Arrivals.{Arrivals, Counts, arrivals_at, count_at, is_key, is_at}
 use Rattle.message_lists.specs.declared.arrivals.Arrival.{Arrival}
 use Rattle.message_lists.specs.declared.link_key.LinkKey.{LinkKey}
-
-pub pointwise-true : (xs ys : List ℕ) → pointwise nat_eq xs ys ≡ true → xs ≡ ys
-pointwise-true [] [] h = refl
-pointwise-true [] (y ∷ ys) h = absurd (true≢false (sym h))
-pointwise-true (x ∷ xs) [] h = absurd (true≢false (sym h))
-pointwise-true (x ∷ xs) (y ∷ ys) h =
-    let parts = and_parts (nat_eq x y) (pointwise nat_eq xs ys) h in
-    let first = eqb-true x y parts.0 in
-    let rest = pointwise-true xs ys parts.1 in
-    cc
 
 -- the same look-up, by the key's own parts
 same_test : (at : LinkKey) (kind : ℕ) (key : List ℕ) → is_at at kind key ≡ true → (k : LinkKey)
@@ -27,21 +18,21 @@ same_test : (at : LinkKey) (kind : ℕ) (key : List ℕ) → is_at at kind key �
 same_test at kind key h k =
     let parts = and_parts (nat_eq at.kind kind) (pointwise nat_eq at.key.now key) h in
     ap (λ (n : ℕ). is_key n at.key.now k) (eqb-true at.kind kind parts.0) ∙ ap
-    (λ (xs : List ℕ). is_key kind xs k) (pointwise-true at.key.now key parts.1)
+    (λ (xs : List ℕ). is_key kind xs k) ((same_text at.key.now key (sym parts.1)))
 
 same_arrivals : (at : LinkKey) (kind : ℕ) (key : List ℕ) (table : Arrivals) → is_at at kind key ≡ true
     → get_by (is_key at.kind at.key.now) table ≡ get_by (is_key kind key) table
 same_arrivals at kind key table h =
     let parts = and_parts (nat_eq at.kind kind) (pointwise nat_eq at.key.now key) h in
     ap (λ (n : ℕ). get_by (is_key n at.key.now) table) (eqb-true at.kind kind parts.0) ∙ ap
-    (λ (xs : List ℕ). get_by (is_key kind xs) table) (pointwise-true at.key.now key parts.1)
+    (λ (xs : List ℕ). get_by (is_key kind xs) table) ((same_text at.key.now key (sym parts.1)))
 
 same_counts : (at : LinkKey) (kind : ℕ) (key : List ℕ) (table : Counts) → is_at at kind key ≡ true
     → get_by (is_key at.kind at.key.now) table ≡ get_by (is_key kind key) table
 same_counts at kind key table h =
     let parts = and_parts (nat_eq at.kind kind) (pointwise nat_eq at.key.now key) h in
     ap (λ (n : ℕ). get_by (is_key n at.key.now) table) (eqb-true at.kind kind parts.0) ∙ ap
-    (λ (xs : List ℕ). get_by (is_key kind xs) table) (pointwise-true at.key.now key parts.1)
+    (λ (xs : List ℕ). get_by (is_key kind xs) table) ((same_text at.key.now key (sym parts.1)))
 
 items_or : (o : Option (Vec Arrival Global)) (fresh : Vec Arrival Global) → fresh.items ≡ []
     → (unwrap_or o fresh).items ≡ option_map_or (λ v. v.items) o []

@@ -6,7 +6,5 @@ mod counts;
 mod link_key;
 mod started;
 mod table;
-#[cfg(test)]
-mod tests;
 
 pub use table::match_links;

@@ -1,10 +1,11 @@
 -- The row of a pair and the table of all rows, one message more.
 use Rattle.std.proofs.Common.{◌≡◌, ℕ, ◌+◌, ◌^◌, ◌<◌, ◌≤◌, Bool, true, false, cond, max, List, [], ◌∷◌, ◌++◌}
-use Rattle.std.proofs.Common.{length, take, get_or, filter, fold, map, sum_by, count_by, unwrap_or, refl, ap}
+use Rattle.std.proofs.Common.{length, take, get_or, filter, fold, map, sum_by, count_by, unwrap_or, ap}
 use Rattle.std.proofs.Common.{subst, sym, ◌∙◌, append-nil, arith, length-append}
 use Rattle.std.proofs.lemmas.List.{take_more}
 use Rattle.std.proofs.lemmas.List.Elements.{filter-append}
 use Rattle.std.proofs.lemmas.List.Sums.{fold_push, sum_by_push}
+use Rattle.std.proofs.lemmas.List.{map_push}
 use Rattle.trace_base.specs.Flat.{is_within}
 use Rattle.std.specs.BTreeMap.{is_at, keys}
 use Rattle.std.specs.BTreeSet.{insert_key}
@@ -90,14 +91,10 @@ pub IsOfAtMost-cond : (b : Bool) (row more : MatrixRow) (n : ℕ) → (IsOfAtMos
 IsOfAtMost-cond true row more n h small = h small
 IsOfAtMost-cond false row more n h small = IsOfAtMost-more row n (n + 1) (omega arith) small
 
-map-push : {X Y : Type 0} (g : X → Y) (xs : List X) (x : X) → map g (xs ++ x ∷ []) ≡ map g xs ++ g x ∷ []
-map-push g [] x = refl
-map-push g (y ∷ ys) x = ap (λ zs. g y ∷ zs) (map-push g ys x)
-
 pub pairs_of-push : (ms : List Message) (m : Message) → pairs_of (ms ++ m ∷ []) ≡ insert_key pair_cmp
     (pairs_of ms) (pair_of m)
 unfolding pairs_of
-pairs_of-push ms m = ap (fold (insert_key pair_cmp) []) (map-push pair_of ms m) ∙ fold_push
+pairs_of-push ms m = ap (fold (insert_key pair_cmp) []) (map_push pair_of ms m) ∙ fold_push
     (insert_key pair_cmp) [] (map pair_of ms) (pair_of m)
 
 -- the table has the rows of these messages, of which there are at most n

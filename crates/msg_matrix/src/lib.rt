@@ -3,8 +3,6 @@
 
 mod matrix_rows;
 mod pairs;
-#[cfg(test)]
-mod tests;
 
 pub use matrix_rows::matrix;
 pub use trace_base::{Matrix, MatrixRow};

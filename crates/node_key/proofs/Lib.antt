@@ -1,5 +1,4 @@
-pub mod HistoryMore
 pub mod Kids
+pub mod Numbering
 pub mod Placing
-pub mod Ranges
-pub mod Weights
+pub mod StakeLaws

@@ -3,12 +3,9 @@ pub mod Branches
 pub mod Calls
 pub mod Events
 pub mod Examples
-pub mod History
 pub mod Items
 pub mod Keys
-pub mod Left
 pub mod Rooms
-pub mod Seat
 pub mod Stakes
 pub mod Stands
 pub mod Tree

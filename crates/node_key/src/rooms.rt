@@ -16,7 +16,7 @@ fn weight(kid: Kid) -> u64
 
 /// The room of the store, from 0, that a key is in: `func + dur + dur / 16 + dur / 4096 + 5 * height` and,
 /// for each kid, `gap + 3 * span + 7 * node`, added in 64 bits, which wrap, modulo 16.
-#[tactic(auto, using(crate::proofs::Weights::wrapping), unfolding(crate::specs::Rooms::room))]
+#[tactic(auto, using(list_lemmas::proofs::Numbers::wrapping), unfolding(crate::specs::Rooms::room))]
 pub fn room_of_key(k: &NodeKey) -> u8
     ensures exact { result ≡ room k.now }
     ensures within { result < STORE_ROOMS }

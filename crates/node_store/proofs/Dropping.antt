@@ -8,6 +8,7 @@ use Rattle.std.specs.Option.{option_map_or}
 use Rattle.std.proofs.lemmas.List.{drop_all, drop_more}
 use Rattle.std.proofs.lemmas.List.Elements.{Contains-append_left}
 use Rattle.std.proofs.lemmas.Option.{none-some, same_Some, slice_get-get_or, slice_get_read}
+use Rattle.list_lemmas.proofs.Options.{some_or_none}
 use Rattle.node_key.specs.Stakes.{Exchanges, HasStakes, stake}
 use Rattle.node_key.specs.declared.stake.Stake.{Stake}
 use Rattle.node_key.specs.Stands.{KeyAt}
@@ -15,6 +16,7 @@ use Rattle.node_key.specs.Tree.{Tree}
 use Rattle.node_key.specs.declared.key.Kid.{Kid}
 use Rattle.node_key.specs.declared.key.NodeKey.{NodeKey}
 use Rattle.node_key.specs.declared.limits.TheConstants.{STORE_ROOMS}
+use Rattle.node_key.proofs.StakeLaws.{first_taken, times-append}
 use Rattle.shard_core.specs.Interning.{Drops}
 use Rattle.shard_core.specs.Room.{Room, Stored, node_at}
 use Rattle.shard_core.specs.declared.answers.Dropped.TheVariants.{Kept, Removed}
@@ -22,15 +24,14 @@ use Rattle.store_laws.specs.Store.{Store, key_in, kids_in, node_in}
 use Rattle.store_laws.proofs.StepsAnswered.{dropped_kept, dropped_removed}
 use Rattle.store_laws.proofs.StepsInRooms.{node_in_room}
 use Rattle.store_laws.proofs.SumsOfStakes.{among_held}
+use Rattle.store_laws.proofs.StoreExchanged.{store_exchanged}
 use Rattle.node_store.specs.Answering.{GivesBack, HasOther}
 use Rattle.node_store.specs.Given.{Given, ever, stakes_of}
 use Rattle.node_store.specs.Kept.{AreKept, KeepsFor, NextNeverFalls, NodesKept}
 use Rattle.node_store.specs.TreeUnder.{kid_stakes, tree_under}
-use Rattle.node_store.proofs.Exchanging.{exchanged_behind, first_taken, has_behind}
-use Rattle.node_store.proofs.Exchanging.{has_from_exchange, store_exchanged}
-use Rattle.node_store.proofs.GivenEntries.{get_or_none}
+use Rattle.node_store.proofs.Exchanging.{exchanged_behind, has_behind}
+use Rattle.node_store.proofs.Exchanging.{has_from_exchange}
 use Rattle.node_store.proofs.Keeping.{kept, kept_with_node, kept_without}
-use Rattle.node_store.proofs.StakesCounted.{times-append}
 use Rattle.node_store.proofs.TreesUnder.{kid_of_standing, kid_stakes_are, stands_still, tree_is}
 
 -- stakes on some kids of a key
@@ -45,7 +46,7 @@ held_one g others left x swap = has_behind (stakes_of g) others (x ∷ [])
 
 pub stored_of_key : (rooms : Store) (n : ℕ) (key : NodeKey) → key_in rooms n ≡ Some key
     → (s : Stored) × (node_in rooms n ≡ Some s)
-stored_of_key rooms n key is = elim (get_or_none (node_in rooms n)) [
+stored_of_key rooms n key is = elim (some_or_none (node_in rooms n)) [
   | inl none ↦ absurd (none-some key (sym (ap (option_map (λ (s : Stored). s.key)) none) ∙ is))
   | inr some ↦ some
 ]

@@ -6,6 +6,7 @@ use Rattle.std.proofs.Common.{slice_set, option_map}
 use Rattle.std.proofs.lemmas.List.{set-get_or}
 use Rattle.std.proofs.lemmas.Option.{get_or_from_slice_get, none-some, slice_get-get_or}
 use Rattle.std.proofs.lemmas.Option.{slice_get_read, slice_get_within}
+use Rattle.list_lemmas.proofs.Options.{some_or_none}
 use Rattle.node_key.specs.Rooms.{room}
 use Rattle.node_key.specs.Stakes.{HasStakes, IsOverStakes, times}
 use Rattle.node_key.specs.declared.stake.Stake.{Stake}
@@ -28,7 +29,6 @@ use Rattle.node_store.specs.Given.{Given, ever, given_entry, staked_at, stakes_o
 use Rattle.node_store.specs.Kept.{AreKept, KeepsFor, NodesKept}
 use Rattle.node_store.specs.declared.numbered.Numbered.{Numbered}
 use Rattle.node_store.proofs.Exchanging.{staked_le}
-use Rattle.node_store.proofs.GivenEntries.{get_or_none}
 use Rattle.node_store.proofs.Keeping.{kept, kept_staked, kept_with_new, kept_with_node}
 use Rattle.node_store.proofs.Staking.{given_from_staked, key_of_new, keys_kept, staked_from_times}
 use Rattle.node_store.proofs.TreesUnder.{stands_still}
@@ -47,7 +47,7 @@ staked_stands s x is_kept has =
 
 pub entry_of_key : (g : Given) (n : ℕ) (key : NodeKey) → ever g n ≡ Some key
     → (e : Numbered) × (given_entry g n ≡ Some e)
-entry_of_key g n key is = elim (get_or_none (given_entry g n)) [
+entry_of_key g n key is = elim (some_or_none (given_entry g n)) [
   | inl none ↦ absurd (none-some key (sym (ap (option_map (λ (e : Numbered). e.key)) none) ∙ is))
   | inr some ↦ some
 ]

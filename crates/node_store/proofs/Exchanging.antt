@@ -1,35 +1,20 @@
 -- Exchanges of stakes, and of those that a store holds.
-use Rattle.std.proofs.Common.{◌≡◌, inl, inr, ℕ, ◌≤◌, ◌==◌, Bool, true, false, cond, List, []}
+use Rattle.std.proofs.Common.{◌≡◌, ℕ, ◌≤◌, ◌==◌, Bool, true, false, cond, List, []}
 use Rattle.std.proofs.Common.{◌∷◌, ◌++◌, Some, refl, sym, ap, ◌∙◌, arith}
 use Rattle.std.proofs.lemmas.Bool.{eq-eqb}
 use Rattle.std.proofs.lemmas.List.Sums.{sum_by-le-sum_by}
 use Rattle.node_key.specs.Stakes.{Exchanges, HasStakes, same_stake, times}
 use Rattle.node_key.specs.declared.stake.Stake.{Stake}
+use Rattle.node_key.proofs.StakeLaws.{same_stake-refl, times-append, times-cons, times-one}
 use Rattle.shard_core.specs.Room.{Stored}
-use Rattle.store_laws.specs.Counted.{IsStore, stakes_on}
+use Rattle.store_laws.specs.Counted.{stakes_on}
 use Rattle.store_laws.specs.Store.{Store, node_in}
-use Rattle.store_laws.proofs.SumsOfStakes.{from_either, same_stake-refl, same_stake-true, stakes_exchanged}
+use Rattle.store_laws.proofs.SumsOfStakes.{same_stake-true}
+use Rattle.store_laws.proofs.StoreExchanged.{store_exchanged}
 use Rattle.node_store.specs.Given.{Given, stake_at, staked_at, stakes_of}
 use Rattle.node_store.specs.Kept.{KeepsFor}
 use Rattle.node_store.proofs.Keeping.{kept}
-use Rattle.node_store.proofs.StakesCounted.{times-append, times-cons, times-stakes_of}
-use Rattle.node_store.proofs.Staking.{times-one}
-
--- a store keeps its stakes in any order
-pub store_exchanged : (rooms : Store) (held left : List Stake) → IsStore rooms held
-    → Exchanges held left [] []
-    → IsStore rooms left
-store_exchanged rooms held left store swap = record {
-  canonic = store.canonic;
-  counted = record {
-    stands = λ x there. elim (from_either held left [] [] x swap there) [
-      | inl before ↦ store.counted.stands x before
-      | inr none ↦ absurd (omega (arith, none.1))
-    ];
-    counts = λ n s is. let same = stakes_exchanged n held left [] [] swap in
-        omega (arith, store.counted.counts n s is, same);
-  };
-}
+use Rattle.node_store.proofs.StakesCounted.{times-stakes_of}
 
 -- a stake that is exchanged for nothing was there
 pub has_from_exchange : (old new : List Stake) (x : Stake) → Exchanges old new (x ∷ []) [] → HasStakes old
@@ -47,15 +32,8 @@ pub exchanged_behind : (front old new taken given : List Stake) → Exchanges ol
 exchanged_behind front old new taken given swap x =
     omega (arith, swap x, times-append x front old, times-append x front new)
 
-pub has_before : (held rest wanted : List Stake) → HasStakes held wanted → HasStakes (held ++ rest) wanted
-has_before held rest wanted has x = omega (arith, has x, times-append x held rest)
-
 pub has_behind : (front held wanted : List Stake) → HasStakes held wanted → HasStakes (front ++ held) wanted
 has_behind front held wanted has x = omega (arith, has x, times-append x front held)
-
--- the first of some stakes is taken
-pub first_taken : (x : Stake) (xs : List Stake) → Exchanges (x ∷ xs) xs (x ∷ []) []
-first_taken x xs y = omega (arith, times-cons y x xs, times-one y x)
 
 -- one exchange after another
 pub exchanged_then : (old mid new one two : List Stake) → Exchanges old mid one [] → Exchanges mid new two []

@@ -1,5 +1,5 @@
 -- What is given under a number, and after a change of one of them.
-use Rattle.std.proofs.Common.{◌≡◌, ◌⊎◌, inl, inr, ℕ, zero, suc, ◌+◌, ◌*◌, ◌-◌, ◌/◌, ◌%◌, ◌<◌, ◌≤◌, Bool, true}
+use Rattle.std.proofs.Common.{◌≡◌, inl, inr, ℕ, zero, suc, ◌+◌, ◌*◌, ◌-◌, ◌/◌, ◌%◌, ◌<◌, ◌≤◌, Bool, true}
 use Rattle.std.proofs.Common.{false}
 use Rattle.std.proofs.Common.{cond, List, [], ◌∷◌, ◌++◌, length, map, fold, max, Option, Some, None, refl}
 use Rattle.std.proofs.Common.{sym, ap}
@@ -7,41 +7,13 @@ use Rattle.std.proofs.Common.{◌∙◌, arith, subst, slice_get, slice_set, nat
 use Rattle.std.specs.Option.{option_map_or}
 use Rattle.std.proofs.lemmas.Bool.{cases_Bool, cases_eq, cond-false, cond-true, leb-true, le-leb}
 use Rattle.std.proofs.lemmas.Option.{none-some, slice_get_within}
+use Rattle.list_lemmas.proofs.Options.{some_or_none}
+use Rattle.list_lemmas.proofs.Positions.{slice_get-before_last, slice_get-last, slice_get-set}
+use Rattle.list_lemmas.proofs.Positions.{slice_get-set_else}
 use Rattle.node_key.specs.declared.limits.TheConstants.{STORE_ROOMS}
 use Rattle.node_store.specs.Changes.{restaked, room_list, with_last, with_staked}
 use Rattle.node_store.specs.Given.{Given, given_entry, past_numbers, staked_at}
 use Rattle.node_store.specs.declared.numbered.Numbered.{Numbered}
-
--- ---- elements of a list
-
-pub set_here : {X : Type 0} (xs : List X) (i : ℕ) (x y : X) → slice_get xs i ≡ Some x
-    → slice_get (slice_set xs i y) i ≡ Some y
-set_here [] i x y at = absurd (none-some x at)
-set_here (z ∷ xs) zero x y at = refl
-set_here (z ∷ xs) (suc i) x y at = set_here xs i x y at
-
-pub set_else : {X : Type 0} (xs : List X) (i j : ℕ) (y : X) → (j ≡ i → ⊥)
-    → slice_get (slice_set xs i y) j ≡ slice_get xs j
-set_else [] i j y apart = refl
-set_else (z ∷ xs) zero zero y apart = absurd (apart refl)
-set_else (z ∷ xs) zero (suc j) y apart = refl
-set_else (z ∷ xs) (suc i) zero y apart = refl
-set_else (z ∷ xs) (suc i) (suc j) y apart = set_else xs i j y (λ e. apart (ap suc e))
-
-last_here : {X : Type 0} (xs : List X) (y : X) → slice_get (xs ++ y ∷ []) (length xs) ≡ Some y
-last_here [] y = refl
-last_here (x ∷ xs) y = last_here xs y
-
-last_else : {X : Type 0} (xs : List X) (y : X) (j : ℕ) → (j ≡ length xs → ⊥)
-    → slice_get (xs ++ y ∷ []) j ≡ slice_get xs j
-last_else [] y zero apart = absurd (apart refl)
-last_else [] y (suc j) apart = refl
-last_else (x ∷ xs) y zero apart = refl
-last_else (x ∷ xs) y (suc j) apart = last_else xs y j (λ e. apart (ap suc e))
-
-pub get_or_none : {X : Type 0} (o : Option X) → (o ≡ None) ⊎ ((x : X) × (o ≡ Some x))
-get_or_none None = inl refl
-get_or_none (Some x) = inr (x, refl)
 
 -- ---- what is given
 
@@ -100,7 +72,7 @@ below_past g n e is =
     omega (arith, within, long, entry.from)
 
 pub staked_past : (g : Given) (n : ℕ) → past_numbers g ≤ n → staked_at g n ≡ 0
-staked_past g n high = elim (get_or_none (given_entry g n)) [
+staked_past g n high = elim (some_or_none (given_entry g n)) [
   | inl none ↦ ap (λ (o : Option Numbered). option_map_or (λ (e : Numbered). e.staked) o 0) none
   | inr some ↦ absurd (omega (arith, high, below_past g n some.0 some.1))
 ]
@@ -129,7 +101,7 @@ module _ (g : Given) (i q : ℕ) (es after : List Numbered) (e : Numbered) (room
       entry_from changed number e (record {
         list = after;
         from = omega (arith, index);
-        there = ap (slice_get (slice_set g.rooms i after)) own ∙ set_here g.rooms i es after there;
+        there = ap (slice_get (slice_set g.rooms i after)) own ∙ slice_get-set g.rooms i es after there;
         at = ap (slice_get after) place ∙ at;
       })
 
@@ -150,12 +122,12 @@ module _ (g : Given) (i q : ℕ) (es after : List Numbered) (e : Numbered) (room
         let b = nat_le g.first (m / STORE_ROOMS) in
         let p = m / STORE_ROOMS - g.first in
         ap (λ (j : ℕ). at_place b p (slice_get (slice_set g.rooms i after) j)) own
-        ∙ ap (at_place b p) (set_here g.rooms i es after there)
+        ∙ ap (at_place b p) (slice_get-set g.rooms i es after there)
         ∙ in_room m apart own b refl
         ∙ sym (ap (at_place b p) there)
         ∙ sym (ap (λ (j : ℕ). at_place b p (slice_get g.rooms j)) own))
     | inr other ↦ ap (at_place (nat_le g.first (m / STORE_ROOMS)) (m / STORE_ROOMS - g.first))
-        (set_else g.rooms i (m % STORE_ROOMS) after other)
+        (slice_get-set_else g.rooms i (m % STORE_ROOMS) after other)
   ]
 
   entered : IsEntered g changed number e
@@ -177,7 +149,8 @@ last_entered g i es e room there =
           (l ++ e ∷ []);
     })
     (STORE_ROOMS * (g.first + length es) + i) e) (sym same)
-    (entered g i (length es) es (es ++ e ∷ []) e room there (last_here es e) (last_else es e))
+    (entered g i (length es) es (es ++ e ∷ []) e room there (slice_get-last es e) (slice_get-before_last es
+    e))
 
 -- another count of stakes
 pub staked_entered : (g : Given) (n : ℕ) (e : Numbered) (c : ℕ) → given_entry g n ≡ Some e
@@ -192,7 +165,7 @@ staked_entered g n e c is =
     (let h : Numbered = record { key = d.key; staked = c } in h)) o entry.list) entry.at in
     let number : STORE_ROOMS * (g.first + q) + n % STORE_ROOMS ≡ n = omega (arith, entry.from) in
     let all = entered g (n % STORE_ROOMS) q entry.list (slice_set entry.list q f) f (omega arith) entry.there
-    (set_here entry.list q e f entry.at) (λ p apart. set_else entry.list q p f apart) in
+    (slice_get-set entry.list q e f entry.at) (λ p apart. slice_get-set_else entry.list q p f apart) in
     subst (λ (l : List Numbered). IsEntered g (record {
       first = g.first;
       rooms = slice_set g.rooms

@@ -7,6 +7,7 @@ use Rattle.node_key.specs.declared.stake.Stake.{Stake}
 use Rattle.node_key.specs.Stands.{KeyAt, Stands}
 use Rattle.node_key.specs.Tree.{Tree}
 use Rattle.node_key.specs.declared.key.NodeKey.{NodeKey}
+use Rattle.node_key.proofs.StakeLaws.{has_before}
 use Rattle.shard_core.specs.Interning.{Interns}
 use Rattle.shard_core.specs.Room.{Room}
 use Rattle.shard_core.specs.declared.answers.Interned.{Interned}
@@ -27,7 +28,7 @@ use Rattle.node_store.specs.TreeUnder.{kid_stakes, tree_under}
 use Rattle.node_store.proofs.Dropping.{next_kept}
 use Rattle.node_store.proofs.Entering.{first_of, known_entry, known_key, list, list_there, new_stands, number}
 use Rattle.node_store.proofs.Entering.{staked_stands, within}
-use Rattle.node_store.proofs.Exchanging.{exchanged_before, has_before}
+use Rattle.node_store.proofs.Exchanging.{exchanged_before}
 use Rattle.node_store.proofs.Keeping.{kept, number_is}
 use Rattle.node_store.proofs.KidLoops.{same_next}
 use Rattle.node_store.proofs.Staking.{ever-with_staked, key_of_new, keys_kept, one_more, restaked_given}

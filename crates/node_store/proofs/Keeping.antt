@@ -3,7 +3,8 @@ use Rattle.std.proofs.Common.{◌≡◌, inl, inr, ℕ, ◌+◌, ◌*◌, ◌-�
 use Rattle.std.proofs.Common.{◌++◌, length, length-set, length-append, Option, Some, None, refl, sym, ap, ◌∙◌}
 use Rattle.std.proofs.Common.{arith, subst, slice_get, slice_set, option_map}
 use Rattle.std.proofs.lemmas.Bool.{cases_eq}
-use Rattle.std.proofs.lemmas.Option.{none-some, same_Some}
+use Rattle.std.proofs.lemmas.Option.{none-some}
+use Rattle.list_lemmas.proofs.Positions.{slice_get-set_else, slice_get-set_is}
 use Rattle.node_key.specs.Rooms.{room}
 use Rattle.node_key.specs.Stands.{KeyAt, Stands}
 use Rattle.node_key.specs.Tree.{Tree}
@@ -20,18 +21,12 @@ use Rattle.node_store.specs.Given.{Given, ever, given_entry}
 use Rattle.node_store.specs.Kept.{AreKept, IsRoomOf, NodesKept}
 use Rattle.node_store.specs.TreeUnder.{tree_under}
 use Rattle.node_store.specs.declared.numbered.Numbered.{Numbered}
-use Rattle.node_store.proofs.GivenEntries.{entry_is, list_is, set_else, set_here}
+use Rattle.node_store.proofs.GivenEntries.{entry_is, list_is}
 use Rattle.node_store.proofs.Staking.{ever-with_staked, key_of_new, key_of_others, keys_kept}
 use Rattle.node_store.proofs.TreesUnder.{stands_so, stands_still}
 
 abbrev pub kept : Store → Given → NodesKept
 kept rooms g = record { rooms = rooms; given = g }
-
--- what is at a place after it was set there
-set_is : {X : Type 0} (xs : List X) (i j : ℕ) (x y z : X) → slice_get xs i ≡ Some x → j ≡ i
-    → slice_get (slice_set xs i y) j ≡ Some z → y ≡ z
-set_is xs i j x y z at same is =
-    same_Some y z (sym (set_here xs i x y at) ∙ ap (slice_get (slice_set xs i y)) (sym same) ∙ is)
 
 -- ---- another count of stakes
 
@@ -43,14 +38,15 @@ module _ (g : Given) (n : ℕ) (e : Numbered) (c : ℕ) (is : given_entry g n �
         let entry = entry_is g n e is in
         let q = n / STORE_ROOMS - g.first in
         let l = restaked (room_list g (n % STORE_ROOMS)) q c in
-        let here : l ≡ es = set_is g.rooms (n % STORE_ROOMS) i entry.list l es entry.there same at in
+        let here : l ≡ es = slice_get-set_is g.rooms (n % STORE_ROOMS) i entry.list l es entry.there same at
+        in
         let f : Numbered = record { key = e.key; staked = c } in
         let as_set : l ≡ slice_set entry.list q f =
         ap (λ (k : List Numbered). restaked k q c) (list_is g (n % STORE_ROOMS) entry.list entry.there)
         ∙ restaked_is entry.list q e c entry.at in
         let long = ap length (sym here ∙ as_set) ∙ length-set entry.list q f in
         (entry.list, ap (slice_get g.rooms) same ∙ entry.there, long))
-    | inr other ↦ (es, sym (set_else g.rooms (n % STORE_ROOMS) i _ other) ∙ at, refl)
+    | inr other ↦ (es, sym (slice_get-set_else g.rooms (n % STORE_ROOMS) i _ other) ∙ at, refl)
   ]
     where
       restaked_is : (k : List Numbered) (p : ℕ) (d : Numbered) (m : ℕ) → slice_get k p ≡ Some d
@@ -89,10 +85,10 @@ module _ (rooms : Store) (g : Given) (i n : ℕ) (old r : Room) (o : Option Stor
       → slice_get g.rooms j ≡ Some es → q.next ≡ g.first + length es
   room_by j q es at at_list = elim (cases_eq j i) [
     | inl same ↦ (
-        let is : r ≡ q = set_is rooms i j old r q there same at in
+        let is : r ≡ q = slice_get-set_is rooms i j old r q there same at in
         let own = is_kept.room j old es (ap (slice_get rooms) same ∙ there) at_list in
         sym (ap (λ (x : Room). x.next) is) ∙ next ∙ own.next)
-    | inr other ↦ (is_kept.room j q es (sym (set_else rooms i j r other) ∙ at) at_list).next
+    | inr other ↦ (is_kept.room j q es (sym (slice_get-set_else rooms i j r other) ∙ at) at_list).next
   ]
 
   key_by : (m : ℕ) (node : Stored) → node_in (slice_set rooms i r) m ≡ Some node → ever g m ≡ Some node.key
@@ -172,15 +168,18 @@ module _ (rooms : Store) (g : Given) (key : NodeKey) (old : Room) (es : List Num
       → slice_get longer.rooms j ≡ Some ks → q.next ≡ g.first + length ks
   next_by j q ks at at_list = elim (cases_eq j (room key)) [
     | inl same ↦ (
-        let is = set_is rooms (room key) j old (with_new old key) q there same at in
-        let same_list = set_is g.rooms (room key) j es (room_list g (room key) ++ first_of ∷ []) ks list same
+        let is = slice_get-set_is rooms (room key) j old (with_new old key) q there same at in
+        let same_list = slice_get-set_is g.rooms (room key) j es (room_list g (room key)
+        ++ first_of ∷ []) ks list same
         at_list in
         let long = ap length (sym same_list ∙ ap (λ (l : List Numbered). l ++ first_of ∷ [])
         (list_is g (room key) es list)) ∙ length-append es (first_of ∷ []) in
         let next = ap (λ (x : Room). x.next) (sym is) in
         omega (arith, next, own.next, long))
-    | inr other ↦ (is_kept.room j q ks (sym (set_else rooms (room key) j (with_new old key) other) ∙ at)
-        (sym (set_else g.rooms (room key) j (room_list g (room key) ++ first_of ∷ []) other) ∙ at_list)).next
+    | inr other ↦ (is_kept.room j q ks (sym (slice_get-set_else rooms (room key) j (with_new old key) other)
+        ∙ at)
+        (sym (slice_get-set_else g.rooms (room key) j (room_list g (room key) ++ first_of ∷ []) other)
+        ∙ at_list)).next
   ]
 
   key_of_node : (m : ℕ) (s : Stored) → node_in more m ≡ Some s → ever longer m ≡ Some s.key

@@ -6,15 +6,13 @@ use Rattle.node_key.specs.declared.stake.Stake.{Stake}
 use Rattle.node_key.specs.Stands.{KeyAt}
 use Rattle.node_key.specs.Tree.{Tree}
 use Rattle.node_key.specs.declared.key.Kid.{Kid}
+use Rattle.node_key.proofs.StakeLaws.{first_taken, times-cons, times-one}
 use Rattle.store_laws.specs.Store.{Store}
 use Rattle.node_store.specs.Answering.{HasOther, HasStakeOn, TakesStake}
 use Rattle.node_store.specs.Given.{ever, stakes_of}
 use Rattle.node_store.specs.Kept.{AreKept, KeepsFor, NextNeverFalls, NodesKept}
 use Rattle.node_store.specs.TreeUnder.{tree_under}
 use Rattle.node_store.proofs.Dropping.{last_kid, next_kid, next_then, on_kids, rooms_same}
-use Rattle.node_store.proofs.StakesCounted.{times-cons}
-use Rattle.node_store.proofs.Staking.{times-one}
-use Rattle.node_store.proofs.Exchanging.{first_taken}
 
 -- those on the kids from the i-th on are still there
 pub record IsTaking (old now : NodesKept) (ks : List Kid) (i : ℕ) : Type 0 where

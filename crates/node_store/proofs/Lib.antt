@@ -9,7 +9,6 @@ pub mod KidLoops
 pub mod Reading
 pub mod StakesCounted
 pub mod Living
-pub mod Owning
 pub mod Staking
 pub mod Starting
 pub mod TakenBack

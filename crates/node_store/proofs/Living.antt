@@ -1,9 +1,9 @@
 -- How many nodes there are.
-use Rattle.std.proofs.Common.{◌≡◌, ℕ, zero, suc, ◌+◌, ◌*◌, ◌/◌, ◌<◌, ◌≤◌, ◌^◌, Bool, true, false, T, ◌&&◌}
-use Rattle.std.proofs.Common.{◌||◌, List}
-use Rattle.std.proofs.Common.{[], ◌∷◌, get_or, length, map, take, Option, Some, None, refl, sym, ap, ◌∙◌}
+use Rattle.std.proofs.Common.{◌≡◌, ℕ, zero, suc, ◌+◌, ◌*◌, ◌/◌, ◌<◌, ◌≤◌, ◌^◌, Bool, true, T}
+use Rattle.std.proofs.Common.{List}
+use Rattle.std.proofs.Common.{[], ◌∷◌, get_or, length, map, take, Some, refl, sym, ap, ◌∙◌}
 use Rattle.std.proofs.Common.{arith, subst}
-use Rattle.std.proofs.Common.{slice_get, is_some, is_lt, nat_eq, sum_by, Ordering, Less, Equal, Greater}
+use Rattle.std.proofs.Common.{slice_get, nat_eq, sum_by}
 use Rattle.std.proofs.Common.{Contains}
 use Rattle.std.proofs.Common.{nat_cmp}
 use Rattle.std.specs.FinMap as map
@@ -11,39 +11,21 @@ use Rattle.std.specs.FinMap.{contains_key-keys, entries_sorted, len-entries}
 use Rattle.std.specs.FinMap.Entries.{below_all, is_sorted}
 use Rattle.std.specs.Cmp.{ranks}
 use Rattle.std.specs.List.{list_any}
-use Rattle.std.specs.Ordering.{MatchOrdering}
 use Rattle.std.proofs.lemmas.Bool.{eq-eqb}
 use Rattle.std.proofs.lemmas.List.{take_all}
 use Rattle.std.proofs.lemmas.List.Concat.{length-flat_map}
 use Rattle.std.proofs.lemmas.List.Sums.{sum_by-cons, sum_by_more_le}
 use Rattle.std.proofs.lemmas.Option.{slice_get-get_or}
+use Rattle.std.proofs.lemmas.Bool.{or_left, or_right}
+use lib.Ieee.Fits.{and_l, and_r}
+use Rattle.list_lemmas.proofs.Numbers.{lt-from_is_lt, nat_tie}
+use Rattle.list_lemmas.proofs.Options.{given_some}
 use Rattle.node_key.specs.declared.limits.TheConstants.{MAX_NUMBERS, STORE_ROOMS}
 use Rattle.shard_core.specs.Room.{IsSound, Room, Stored, node_at}
-use Rattle.shard_core.proofs.RoomMaps.{tie}
 use Rattle.store_laws.specs.Store.{Store, nodes_in}
 use Rattle.node_store.specs.Kept.{AreKept, NodesKept}
 
 -- ---- numbers that rise
-
-left_of : (a b : Bool) → T (a && b) → T a
-left_of true b h = tt
-left_of false b h = absurd h
-
-right_of : (a b : Bool) → T (a && b) → T b
-right_of true b h = h
-right_of false b h = absurd h
-
-less_by : (x y : ℕ) (r : Ordering) → MatchOrdering r (x < y) (x ≡ y) (y < x) → T (is_lt r) → x < y
-less_by x y Less m h = m
-less_by x y Equal m h = absurd h
-less_by x y Greater m h = absurd h
-
-or_right : (a b : Bool) → b ≡ true → (a || b) ≡ true
-or_right true b h = refl
-or_right false b h = h
-
-or_left : (a b : Bool) → a ≡ true → (a || b) ≡ true
-or_left a b h = ap (λ (c : Bool). c || b) h
 
 abbrev numbers : List (ℕ × Stored) → List ℕ
 numbers es = map (λ e. e.0) es
@@ -52,9 +34,9 @@ rising : (n k : ℕ) (es : List (ℕ × Stored)) → T (below_all nat_cmp k es) 
     → ((q : ℕ) → list_any (nat_eq q) (numbers es) ≡ true → q < n) → length es + k + 1 ≤ n
 rising n k [] below sorted low each = omega (arith, low)
 rising n k (e ∷ es) below sorted low each =
-    let less = less_by k e.0 (nat_cmp k e.0) (ranks k e.0) (left_of _ _ below) in
+    let less = lt-from_is_lt k e.0 (nat_cmp k e.0) (ranks k e.0) (and_l _ _ below) in
     let here = each e.0 (or_left _ _ (eq-eqb e.0 e.0 refl)) in
-    let rest = rising n e.0 es (left_of _ _ sorted) (right_of _ _ sorted) here
+    let rest = rising n e.0 es (and_l _ _ sorted) (and_r _ _ sorted) here
     (λ q is. each q (or_right (nat_eq q e.0) (list_any (nat_eq q) (numbers es)) is)) in
     omega (arith, less, rest)
 
@@ -63,7 +45,7 @@ at_most : (n : ℕ) (es : List (ℕ × Stored)) → T (is_sorted nat_cmp es)
 at_most n [] sorted each = omega arith
 at_most n (e ∷ es) sorted each =
     let here = each e.0 (or_left _ _ (eq-eqb e.0 e.0 refl)) in
-    let rest = rising n e.0 es (left_of _ _ sorted) (right_of _ _ sorted) here
+    let rest = rising n e.0 es (and_l _ _ sorted) (and_r _ _ sorted) here
     (λ q is. each q (or_right (nat_eq q e.0) (list_any (nat_eq q) (numbers es)) is)) in
     omega (arith, rest)
 
@@ -72,17 +54,13 @@ at_most n (e ∷ es) sorted each =
 abbrev pub nodes_of : Room → ℕ
 nodes_of r = map.len r.nodes
 
-node_is : (o : Option Stored) → is_some o ≡ true → (s : Stored) × (o ≡ Some s)
-node_is (Some s) is = (s, refl)
-node_is None is = absurd (Rattle.std.proofs.Common.true≢false (sym is))
-
 -- a room has no more nodes than numbers
 few_nodes : (r : Room) → IsSound r → nodes_of r ≤ STORE_ROOMS * MAX_NUMBERS
 few_nodes r sound =
     let fits = at_most (STORE_ROOMS * MAX_NUMBERS) (map.entries r.nodes) (entries_sorted r.nodes) (λ q is.
     let there : map.contains_key r.nodes q ≡ true = contains_key-keys r.nodes q
-    ∙ ap (λ (e : ℕ → Bool). list_any e (map.keys r.nodes)) (λ i y. tie q y i) ∙ is in
-    let (s, at) = node_is (node_at r q) there in
+    ∙ ap (λ (e : ℕ → Bool). list_any e (map.keys r.nodes)) (λ i y. nat_tie q y i) ∙ is in
+    let (s, at) = given_some (node_at r q) there in
     omega (arith, (sound.placed q s.key s.count at).index, sound.next)) in
     omega (arith, fits, len-entries r.nodes)
 

@@ -1,37 +1,24 @@
 -- How often a stake is among those of the owner.
-use Rattle.std.proofs.Common.{◌≡◌, ◌⊎◌, inl, inr, ℕ, zero, suc, ◌+◌, ◌<◌, ◌≤◌, Bool, true, false}
-use Rattle.std.proofs.Common.{cond, List, ◌∷◌, ◌++◌, replicate, refl}
+use Rattle.std.proofs.Common.{◌≡◌, ◌⊎◌, inl, inr, ℕ, zero, suc, ◌+◌, ◌<◌, ◌≤◌, Bool}
+use Rattle.std.proofs.Common.{cond, List, replicate, refl}
 use Rattle.std.proofs.Common.{sym, ap, ◌∙◌, arith}
 use Rattle.std.specs.List.{flat_map, range_with_len}
 use Rattle.std.proofs.lemmas.Bool.{cases_Bool, cases_eq, cases_lt}
-use Rattle.std.proofs.lemmas.List.Sums.{sum_by-append, sum_by-cons}
+use Rattle.list_lemmas.proofs.Booleans.{cond-suc, cond_nothing}
 use Rattle.node_key.specs.Stakes.{same_stake, times}
 use Rattle.node_key.specs.declared.stake.Stake.{Stake}
 use Rattle.node_key.specs.Tree.{Tree}
+use Rattle.node_key.proofs.StakeLaws.{times-append, times-cons}
 use Rattle.store_laws.proofs.SumsOfStakes.{same_stake-true}
 use Rattle.node_store.specs.Given.{Given, ever, past_numbers, stake_at, staked_at, stakes_of}
 use Rattle.node_store.specs.TreeUnder.{tree_under}
 use Rattle.node_store.proofs.GivenEntries.{staked_past}
 
-pub times-append : (x : Stake) (xs ys : List Stake) → times x (xs ++ ys) ≡ times x xs + times x ys
-times-append x xs ys = sum_by-append (λ (y : Stake). cond (same_stake x y) 1 0) xs ys
-
-pub times-cons : (x y : Stake) (ys : List Stake) → times x (y ∷ ys) ≡ cond (same_stake x y) 1 0 + times x ys
-times-cons x y ys = sum_by-cons (λ (z : Stake). cond (same_stake x z) 1 0) y ys
-
-by_test : (b : Bool) (m : ℕ) → cond b 1 0 + cond b m 0 ≡ cond b (suc m) 0
-by_test true m = omega arith
-by_test false m = refl
-
-by_none : (b : Bool) → cond {A = ℕ} b 0 0 ≡ 0
-by_none true = refl
-by_none false = refl
-
 times-replicate : (x y : Stake) (m : ℕ) → times x (replicate m y) ≡ cond (same_stake x y) m 0
-times-replicate x y zero = sym (by_none (same_stake x y))
+times-replicate x y zero = sym (cond_nothing (same_stake x y))
 times-replicate x y (suc m) =
     times-cons x y (replicate m y) ∙ ap (λ (n : ℕ). cond (same_stake x y) 1 0 + n) (times-replicate x y m)
-    ∙ by_test (same_stake x y) m
+    ∙ cond-suc (same_stake x y) m
 
 module _ (x : Stake) (many : ℕ → ℕ) (tree : ℕ → Tree) where
   abbrev stake : ℕ → Stake
@@ -92,5 +79,5 @@ times-stakes_of g x = elim (cases_lt x.number (past_numbers g)) [
   | inr high ↦ (
       outside x (staked_at g) (tree_under (ever g)) 0 (past_numbers g) (inr (omega (arith, high)))
       ∙ sym (ap (λ (n : ℕ). cond (same_stake x (stake_at g x.number)) n 0) (staked_past g x.number high)
-      ∙ by_none (same_stake x (stake_at g x.number))))
+      ∙ cond_nothing (same_stake x (stake_at g x.number))))
 ]

@@ -5,23 +5,23 @@ use Rattle.std.proofs.Common.{slice_get, option_map}
 use Rattle.std.specs.Option.{option_map_or}
 use Rattle.std.proofs.lemmas.Bool.{cases_Bool, cases_eq}
 use Rattle.std.proofs.lemmas.Option.{none-some, same_Some, slice_get_within}
+use Rattle.list_lemmas.proofs.Booleans.{cond_zeros}
+use Rattle.list_lemmas.proofs.Options.{some_or_none}
 use Rattle.node_key.specs.Stakes.{Exchanges, HasStakes, IsOverStakes, same_stake, stake, times}
 use Rattle.node_key.specs.declared.stake.Stake.{Stake}
 use Rattle.node_key.specs.Stands.{Stands}
 use Rattle.node_key.specs.Tree.{Tree}
 use Rattle.node_key.specs.declared.key.NodeKey.{NodeKey}
 use Rattle.node_key.specs.declared.limits.TheConstants.{STORE_ROOMS}
-use Rattle.store_laws.proofs.SumsOfStakes.{same_stake-refl, same_stake-true, times_from_there}
+use Rattle.node_key.proofs.StakeLaws.{same_stake-refl, times-one}
+use Rattle.store_laws.proofs.SumsOfStakes.{same_stake-true, times_from_there}
 use Rattle.node_store.specs.Changes.{with_last, with_staked}
 use Rattle.node_store.specs.Given.{Given, ever, given_entry, stake_at, staked_at, stakes_of}
 use Rattle.node_store.specs.TreeUnder.{kid_stakes, tree_under}
 use Rattle.node_store.specs.declared.numbered.Numbered.{Numbered}
-use Rattle.node_store.proofs.GivenEntries.{IsEntered, entry_is, get_or_none, last_entered, staked_entered}
-use Rattle.node_store.proofs.StakesCounted.{times-cons, times-stakes_of}
+use Rattle.node_store.proofs.GivenEntries.{IsEntered, entry_is, last_entered, staked_entered}
+use Rattle.node_store.proofs.StakesCounted.{times-stakes_of}
 use Rattle.node_store.proofs.TreesUnder.{kid_stakes_are, tree_is, tree_still}
-
-pub times-one : (x y : Stake) → times x (y ∷ []) ≡ cond (same_stake x y) 1 0
-times-one x y = times-cons x y [] ∙ omega arith
 
 -- only the count of stakes under one number is another
 pub record IsRestaked (g after : Given) (n : ℕ) (t : Tree) : Type 0 where
@@ -29,12 +29,6 @@ pub record IsRestaked (g after : Given) (n : ℕ) (t : Tree) : Type 0 where
   pub trees : (m : ℕ) → (m ≡ n → ⊥) → (stake_at after m ≡ stake_at g m) ⊎ (staked_at g m ≡ 0)
   pub before : (stake_at g n ≡ stake n t) ⊎ (staked_at g n ≡ 0)
   pub here : stake_at after n ≡ stake n t
-
-cond_zero : (b c : Bool) (m n : ℕ) → m ≡ 0 → n ≡ 0 → cond b m 0 ≡ cond c n 0
-cond_zero true true m n p q = p ∙ sym q
-cond_zero true false m n p q = p
-cond_zero false true m n p q = sym q
-cond_zero false false m n p q = refl
 
 module _ (g after : Given) (n : ℕ) (t : Tree) (is : IsRestaked g after n t) where
   abbrev own : Stake
@@ -45,7 +39,7 @@ module _ (g after : Given) (n : ℕ) (t : Tree) (is : IsRestaked g after n t) wh
     | inl same ↦ (
         ap (λ (y : Stake). cond (same_stake x y) (staked_at after x.number) 0) same
         ∙ ap (λ (m : ℕ). cond (same_stake x (stake_at g x.number)) m 0) (is.counts x.number apart))
-    | inr none ↦ cond_zero _ _ _ _ (is.counts x.number apart ∙ none) none
+    | inr none ↦ cond_zeros _ _ _ _ (is.counts x.number apart ∙ none) none
   ] ∙ sym (times-stakes_of g x)
 
   afterwards : (x : Stake) → x.number ≡ n → times x (stakes_of after) ≡ cond (same_stake x own)
@@ -59,7 +53,7 @@ module _ (g after : Given) (n : ℕ) (t : Tree) (is : IsRestaked g after n t) wh
       ∙ ap (λ (m : ℕ). cond (same_stake x (stake_at g m)) (staked_at g m) 0) same
       ∙ elim is.before [
         | inl tree ↦ ap (λ (y : Stake). cond (same_stake x y) (staked_at g n) 0) tree
-        | inr none ↦ cond_zero _ _ _ _ none none
+        | inr none ↦ cond_zeros _ _ _ _ none none
       ]
 
   not_own : (x : Stake) → (x.number ≡ n → ⊥) → times x (own ∷ []) ≡ 0
@@ -146,7 +140,7 @@ module _ (g : Given) (i : ℕ) (es : List Numbered) (key : NodeKey) (room : i < 
   new_entered = last_entered g i es first_of room there
 
   new_number : given_entry g number ≡ None
-  new_number = elim (get_or_none (given_entry g number)) [
+  new_number = elim (some_or_none (given_entry g number)) [
     | inl none ↦ none
     | inr some ↦ (
         let entry = entry_is g number some.0 some.1 in
@@ -185,7 +179,7 @@ module _ (g : Given) (i : ℕ) (es : List Numbered) (key : NodeKey) (room : i < 
   tree_kept : ((m : ℕ) (k : NodeKey) → ever g m ≡ Some k → Stands (ever g) m (tree_under (ever g) m))
       → (m : ℕ)
       → (stake_at longer m ≡ stake_at g m) ⊎ (staked_at g m ≡ 0)
-  tree_kept stand m = elim (get_or_none (given_entry g m)) [
+  tree_kept stand m = elim (some_or_none (given_entry g m)) [
     | inl none ↦ inr (ap (λ (o : Option Numbered). option_map_or (λ (d : Numbered). d.staked) o 0) none)
     | inr some ↦ (
         let at = ap (option_map (λ (d : Numbered). d.key)) some.1 in
@@ -227,7 +221,7 @@ staked_from_has g n t has =
 
 -- what is staked was given
 pub given_from_staked : (g : Given) (n : ℕ) → 1 ≤ staked_at g n → (e : Numbered) × (given_entry g n ≡ Some e)
-given_from_staked g n staked = elim (get_or_none (given_entry g n)) [
+given_from_staked g n staked = elim (some_or_none (given_entry g n)) [
   | inl none ↦ (
       let count = ap (λ (o : Option Numbered). option_map_or (λ (d : Numbered). d.staked) o 0) none in
       absurd (omega (arith, staked, count)))

@@ -7,6 +7,7 @@ use Rattle.std.specs.List.{flat_map, range_with_len}
 use Rattle.std.specs.Option.{option_map_or}
 use Rattle.std.specs.Ordering.{nat_cmp}
 use Rattle.std.proofs.lemmas.Option.{none-some, same_Some, slice_get-map}
+use Rattle.list_lemmas.proofs.Options.{some_or_none}
 use Rattle.node_key.specs.declared.stake.Stake.{Stake}
 use Rattle.node_key.specs.declared.limits.TheConstants.{MAX_NUMBERS, STORE_ROOMS}
 use Rattle.shard_core.specs.Room.{Room, node_at}
@@ -16,7 +17,7 @@ use Rattle.store_laws.proofs.StepsFromNothing.{nothing}
 use Rattle.node_store.specs.Given.{Given, given_entry, past_numbers, stake_at, staked_at, stakes_of}
 use Rattle.node_store.specs.Kept.{AreKept, KeepsFor}
 use Rattle.node_store.specs.declared.numbered.Numbered.{Numbered}
-use Rattle.node_store.proofs.GivenEntries.{entry_is, get_or_none}
+use Rattle.node_store.proofs.GivenEntries.{entry_is}
 use Rattle.node_store.proofs.Keeping.{kept}
 
 abbrev pub empty_given : ℕ → Given
@@ -31,7 +32,7 @@ not_in_none : (es : List Numbered) (p : ℕ) (e : Numbered) → [] ≡ es → sl
 not_in_none es p e none at = none-some e (ap (λ (l : List Numbered). slice_get l p) none ∙ at)
 
 pub none_given : (first n : ℕ) → given_entry (empty_given first) n ≡ None
-none_given first n = elim (get_or_none (given_entry (empty_given first) n)) [
+none_given first n = elim (some_or_none (given_entry (empty_given first) n)) [
   | inl none ↦ none
   | inr some ↦ (
       let entry = entry_is (empty_given first) n some.0 some.1 in

@@ -1,17 +1,13 @@
 -- The last number of a room is taken back.
-use Rattle.std.proofs.Common.{◌≡◌, ℕ, zero, suc, ◌<◌, List, [], ◌∷◌, ◌++◌, get_or, length, MatchOption}
+use Rattle.std.proofs.Common.{◌≡◌, ℕ, ◌<◌, List, [], ◌∷◌, ◌++◌, get_or, length, MatchOption}
 use Rattle.std.proofs.Common.{Option}
-use Rattle.std.proofs.Common.{None, Some, refl, sym, ap, ◌∙◌, arith, slice_set, length-append}
+use Rattle.std.proofs.Common.{None, Some, sym, ap, ◌∙◌, arith, slice_set, length-append}
 use Rattle.std.proofs.lemmas.List.{get_or-set_same, same_from_push, set-get_or}
 use Rattle.std.proofs.lemmas.Option.{unwrap_or-slice_get}
+use Rattle.std.proofs.lemmas.List.{set-set}
 use Rattle.node_store.specs.Changes.{room_list, with_last}
 use Rattle.node_store.specs.Given.{Given}
 use Rattle.node_store.specs.declared.numbered.Numbered.{Numbered}
-
-set_twice : {X : Type 0} (xs : List X) (i : ℕ) (x y : X) → slice_set (slice_set xs i x) i y ≡ slice_set xs i y
-set_twice [] i x y = refl
-set_twice (z ∷ xs) zero x y = refl
-set_twice (z ∷ xs) (suc i) x y = ap (λ l. z ∷ l) (set_twice xs i x y)
 
 popped_is : (es old new : List Numbered) (e : Numbered) (popped : Option Numbered) → old ≡ es ++ e ∷ []
     → MatchOption popped ((old ≡ []) × (new ≡ [])) (λ last. old ≡ new ++ last ∷ []) → new ≡ es
@@ -26,7 +22,7 @@ taken : (before : Given) (i : ℕ) (e : Numbered) (old new : List Numbered) (pop
 taken before i e old new popped within is pop =
     let es = room_list before i in
     let whole = is ∙ get_or-set_same before.rooms i (es ++ e ∷ []) old within in
-    set_twice before.rooms i (es ++ e ∷ []) new
+    set-set before.rooms i (es ++ e ∷ []) new
     ∙ ap (slice_set before.rooms i) (popped_is es old new e popped whole pop
     ∙ unwrap_or-slice_get before.rooms i [])
     ∙ set-get_or before.rooms i []

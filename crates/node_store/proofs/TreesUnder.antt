@@ -4,6 +4,7 @@ use Rattle.std.proofs.Common.{refl}
 use Rattle.std.proofs.Common.{sym, ap, ◌∙◌, arith, subst, slice_get, Contains, zero-lt-suc}
 use Rattle.std.specs.Option.{option_map_or}
 use Rattle.std.proofs.lemmas.Option.{none-some, same_Some}
+use Rattle.list_lemmas.proofs.Fronts.{behind_first, first_or, no_cons}
 use Rattle.node_key.specs.Branches.{kids_of}
 use Rattle.node_key.specs.Keys.{IsKeyOf, numbered}
 use Rattle.node_key.specs.Stakes.{AreOnKids, IsOverStakes}
@@ -17,17 +18,6 @@ use Rattle.store_laws.specs.Store.{kids_in}
 use Rattle.store_laws.proofs.StepsOfKids.{AreOnKids-stakes_of, Stands-carried, numbers}
 use Rattle.store_laws.proofs.StepsOfKids.{numbers-stakes_of, stakes_of, stakes_of-Stand}
 use Rattle.node_store.specs.TreeUnder.{kid_stakes, tree_to_depth, tree_under}
-
-no_cons : {X : Type 0} (x : X) (xs : List X) → x ∷ xs ≡ [] → ⊥
-no_cons x xs is = let same = ap length is in omega (arith, same)
-
-abbrev first_or : {X : Type 0} → X → List X → X
-first_or d [] = d
-first_or d (x ∷ xs) = x
-
-abbrev later : {X : Type 0} → List X → List X
-later [] = []
-later (x ∷ xs) = xs
 
 behind : (x y : Stake) (xs : List Stake) → Contains xs x → Contains (y ∷ xs) x
 behind x y xs (i, below, is) = (suc i, omega (arith, below), is)
@@ -77,7 +67,7 @@ kids_to_depth at depth (kid gap func dur inner more) (x ∷ xs) on each low =
     ap (λ (ns : List ℕ). kids_at at d (numbered inner ns)) (sym (numbers-stakes_of at ms inner below))
     ∙ kids_to_depth at d inner (stakes_of ms inner) (AreOnKids-stakes_of at ms inner below)
     (λ y there. stakes_of-Stand at ms inner y below there) (omega (arith, low, deep))) in
-    let others = kids_to_depth at depth more xs (ap later on) (λ y there. each y (behind y x xs there))
+    let others = kids_to_depth at depth more xs (ap behind_first on) (λ y there. each y (behind y x xs there))
     (omega (arith, low)) in
     λ i. kid gap (first i).func (first i).dur (first i).kids (others i)
 
@@ -132,7 +122,7 @@ kid_stands at (kid gap func dur inner more) (x ∷ xs) zero c on each is =
       omega (arith, tree),
     )
 kid_stands at (kid gap func dur inner more) (x ∷ xs) (suc i) c on each is =
-    let (t, stands, lower) = kid_stands at more xs i c (ap later on)
+    let (t, stands, lower) = kid_stands at more xs i c (ap behind_first on)
     (λ y there. each y (behind y x xs there)) is in
     (t, stands, omega (arith, lower))
 

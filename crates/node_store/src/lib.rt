@@ -6,8 +6,6 @@ mod examples;
 mod given;
 mod numbered;
 mod store;
-#[cfg(test)]
-mod tests;
 
 pub use examples::{
     nothing_given, numbers_of_small_trees, stakes_on_small_trees, trees_under_numbers,

@@ -1,12 +1,14 @@
 -- Which texts an event line has under the definitions.
-use Rattle.std.proofs.Common.{◌≡◌, ℕ, ◌+◌, ◌<◌, List, [], ◌∷◌, length, slice_get, nat_lt, cond, position}
+use Rattle.std.proofs.Common.{◌≡◌, ℕ, ◌+◌, ◌<◌, List, [], ◌∷◌, length, slice_get, nat_lt, cond}
 use Rattle.std.proofs.Common.{Bool, true, false, Option, Some, None, is_some, is_none, IfSome, Result}
 use Rattle.std.proofs.Common.{Ok, Err, refl, sym, ◌∙◌, ap, subst, arith}
-use Rattle.std.specs.List.{AllByRecursion, find, position_or_len}
-use Rattle.std.specs.Option.{IsSome, option_and_then, option_or}
+use Rattle.std.specs.List.{AllByRecursion, find}
+use Rattle.std.specs.Option.{IsSome, option_and_then}
 use Rattle.std.specs.Result.{is_ok, result_unwrap_or, IfOk}
 use Rattle.std.proofs.lemmas.Bool.{true≢false, ltb-true}
 use Rattle.std.proofs.lemmas.Option.{slice_get-get_or}
+use Rattle.list_lemmas.proofs.Options.{or_both}
+use Rattle.list_lemmas.proofs.Places.{position-within}
 use Rattle.paje_lex.specs.declared.date_fault.DateFault.{DateFault}
 use Rattle.paje_defs.specs.declared.role.Role.{Role}
 use Rattle.paje_defs.specs.declared.role.Role.TheVariants as roles
@@ -29,30 +31,17 @@ use Rattle.paje_defs.specs.Texts.{HasNeeded, text_at, text_by_role}
 
 -- ---- where a field stands
 
-position_within : {X : Type 0} (p : X → Bool) (xs : List X) → IfSome (position p xs) (λ at. at < length xs)
-position_within p xs = by_test (position_or_len p xs) (length xs) (nat_lt (position_or_len p xs) (length xs))
-    refl
-  where
-    by_test : (at len : ℕ) (b : Bool) → nat_lt at len ≡ b → IfSome (cond b (Some at) None) (λ at. at < len)
-    by_test at len true e = ltb-true at len e
-    by_test at len false e = tt
-
-or_within : (len : ℕ) (first second : Option ℕ) → IfSome first (λ at. at < len)
-    → IfSome second (λ at. at < len) → IfSome (option_or first second) (λ at. at < len)
-or_within len None second a b = b
-or_within len (Some place) second a b = a
-
 second_within : (fields : List Field) (name : Option FieldName)
     → IfSome (option_and_then (place_of_name fields) name) (λ at. at < length fields)
 second_within fields None = tt
-second_within fields (Some name) = position_within (is_named name) fields
+second_within fields (Some name) = position-within (is_named name) fields
 
 pub place_within : (event : EventName) (fields : List Field) (role : Role)
     → IfSome (place_of event fields role) (λ at. at < length fields)
 place_within event fields role =
-    or_within (length fields) (place_of_name fields (first_name role))
-    (option_and_then (place_of_name fields) (second_name event role))
-    (position_within (is_named (first_name role)) fields) (second_within fields (second_name event role))
+    or_both (λ (at : ℕ). at < (length fields)) (place_of_name fields (first_name role)) (option_and_then
+    (place_of_name fields) (second_name event role)) (position-within (is_named (first_name role)) fields)
+    (second_within fields (second_name event role))
 
 -- ---- the definition of an event line
 

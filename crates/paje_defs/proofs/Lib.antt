@@ -1,4 +1,5 @@
 pub mod EventLaws
+pub mod FirstOf
 pub mod LinesSoFar
 pub mod OneMoreLine
 pub mod PlacedMore

@@ -1,11 +1,11 @@
 -- What is begun and what is complete, after one more line.
-use Rattle.std.proofs.Common.{◌≡◌, ℕ, ◌+◌, ◌-◌, List, [], ◌∷◌, ◌++◌, ◌||◌, length, drop, filter, filter_map}
-use Rattle.std.proofs.Common.{Bool, true, false, not, Option, Some, None, cond, refl, ◌∙◌, ap, arith}
-use Rattle.std.specs.List.{after_last, last_or, prefix_len, suffix_len}
+use Rattle.std.proofs.Common.{◌≡◌, ℕ, List, [], ◌∷◌, ◌++◌, ◌||◌, filter, filter_map}
+use Rattle.std.proofs.Common.{Bool, true, false, Option, Some, None, cond, refl, ◌∙◌, ap}
+use Rattle.std.specs.List.{after_last, last_or}
 use Rattle.std.specs.Option.{option_and_then, option_map, option_to_list, option_zip}
-use Rattle.std.proofs.lemmas.List.{append-nil, drop-append-le, drop_all, length-append}
-use Rattle.std.proofs.lemmas.List.{reverse-append}
-use Rattle.std.proofs.lemmas.List.Elements.{filter-append, filter_map-append}
+use Rattle.std.proofs.lemmas.List.Elements.{filter_map-append}
+use Rattle.list_lemmas.proofs.Last.{after_last-kept, after_last-more, last-kept, last-more}
+use Rattle.list_lemmas.proofs.Options.{cons_option-list}
 use Rattle.paje_defs.specs.declared.event_name.EventName.{EventName}
 use Rattle.paje_defs.specs.declared.field.Field.{Field}
 use Rattle.paje_defs.specs.declared.begun.Begun.{Begun}
@@ -13,46 +13,7 @@ use Rattle.paje_defs.specs.Lines.{Line, begins_definition, begun_by, begun_in, b
 use Rattle.paje_defs.specs.Lines.{defined_by}
 use Rattle.paje_defs.specs.Lines.{defined_event, defined_number, ended_at, ends_definition, field_of}
 use Rattle.paje_defs.specs.Table.{grown}
-use Rattle.paje_defs.proofs.PlacedMore.{one_or_none, told-more}
-
--- ---- lists
-
-after_last-kept : {X : Type 0} (p : X → Bool) (xs : List X) (x : X) → p x ≡ true
-    → after_last p (xs ++ x ∷ []) ≡ []
-after_last-kept p xs x passes =
-    let none : suffix_len (λ y. not (p y)) (xs ++ x ∷ []) ≡ 0 =
-    ap (prefix_len (λ y. not (p y))) (reverse-append xs (x ∷ [])) ∙ ap
-    (λ b. cond (not b) (1 + suffix_len (λ y. not (p y)) xs) 0) passes in
-    drop_all (length (xs ++ x ∷ []) - suffix_len (λ y. not (p y)) (xs ++ x ∷ [])) (xs ++ x ∷ [])
-    (omega (arith, none))
-
-after_last-more : {X : Type 0} (p : X → Bool) (xs : List X) (x : X) → p x ≡ false
-    → after_last p (xs ++ x ∷ []) ≡ after_last p xs ++ x ∷ []
-after_last-more p xs x fails =
-    let tail = suffix_len (λ y. not (p y)) xs in
-    let one : suffix_len (λ y. not (p y)) (xs ++ x ∷ []) ≡ 1 + tail =
-    ap (prefix_len (λ y. not (p y))) (reverse-append xs (x ∷ [])) ∙ ap (λ b. cond (not b) (1 + tail) 0) fails
-    in
-    let count : length (xs ++ x ∷ []) ≡ length xs + 1 = length-append xs (x ∷ []) in
-    let at : length (xs ++ x ∷ []) - suffix_len (λ y. not (p y)) (xs ++ x ∷ []) ≡ length xs - tail =
-    omega (arith, one, count) in
-    ap (λ n. drop n (xs ++ x ∷ [])) at ∙ drop-append-le (length xs - tail) xs (x ∷ []) (omega arith)
-
-last_or-append : {X : Type 0} (o : Option X) (xs : List X) (x : X) → last_or o (xs ++ x ∷ []) ≡ Some x
-last_or-append o [] x = refl
-last_or-append o (y ∷ xs) x = last_or-append (Some y) xs x
-
-last-kept : {X : Type 0} (p : X → Bool) (xs : List X) (x : X) → p x ≡ true
-    → last_or None (filter p (xs ++ x ∷ [])) ≡ Some x
-last-kept p xs x passes =
-    ap (last_or None) (filter-append p xs (x ∷ []) ∙ ap (λ b. filter p xs ++ cond b (x ∷ []) []) passes) ∙
-    last_or-append None (filter p xs) x
-
-last-more : {X : Type 0} (p : X → Bool) (xs : List X) (x : X) → p x ≡ false
-    → last_or None (filter p (xs ++ x ∷ [])) ≡ last_or None (filter p xs)
-last-more p xs x fails =
-    ap (last_or None) (filter-append p xs (x ∷ []) ∙ ap (λ b. filter p xs ++ cond b (x ∷ []) []) fails ∙
-    append-nil (filter p xs))
+use Rattle.paje_defs.proofs.PlacedMore.{told-more}
 
 -- ---- what is begun
 
@@ -108,7 +69,7 @@ begun-field lines line inner =
     ++ option_to_list (field_of line.words) =
     ap fields_in (after_last-more borders lines line inner)
     ∙ (filter_map-append (λ line. field_of line.words) behind (line ∷ []) ∙ ap (λ more. fields_in behind
-    ++ more) (one_or_none (field_of line.words))) in
+    ++ more) (cons_option-list (field_of line.words))) in
     ap (λ last. option_and_then (begun_by (fields_in (after_last borders (lines ++ line ∷ [])))) last)
     (last-more borders lines line inner)
     ∙ (ap (λ fields. option_and_then (begun_by fields) (last_or None (filter borders lines))) fields

@@ -1,11 +1,12 @@
 -- Facts of a list of lines, after one more line.
-use Rattle.std.proofs.Common.{◌≡◌, List, [], ◌∷◌, ◌++◌, filter, filter_map, map, Bool, true, false, cond}
-use Rattle.std.proofs.Common.{Option, Some, None, refl, sym, ◌∙◌, ap, is_some}
-use Rattle.std.specs.List.{cons_option, find}
+use Rattle.std.proofs.Common.{◌≡◌, List, [], ◌∷◌, ◌++◌, filter_map, Bool}
+use Rattle.std.proofs.Common.{Option, sym, ◌∙◌, ap, is_some}
+use Rattle.std.specs.List.{find}
 use Rattle.std.specs.Option.{option_or, option_to_list}
-use Rattle.std.proofs.lemmas.List.{append-nil, append_assoc, map-append}
-use Rattle.std.proofs.lemmas.List.Elements.{filter-append, filter_map-append}
+use Rattle.std.proofs.lemmas.List.{append-nil, append_assoc}
+use Rattle.std.proofs.lemmas.List.Elements.{filter_map-append}
 use Rattle.std.proofs.lemmas.List.Folds.{find-append}
+use Rattle.list_lemmas.proofs.Options.{cons_option-list}
 use Rattle.paje_defs.specs.Refusals.{Placed, first_refused, placed, placed_behind}
 
 behind-more : {X : Type 0} (before lines : List X) (line : X)
@@ -20,10 +21,6 @@ pub placed-more : {X : Type 0} (lines : List X) (line : X)
     → placed (lines ++ line ∷ []) ≡ placed lines ++ record { before = lines; line = line } ∷ []
 placed-more lines line = behind-more [] lines line
 
-pub one_or_none : {X : Type 0} (o : Option X) → cons_option o [] ≡ option_to_list o
-one_or_none None = refl
-one_or_none (Some x) = refl
-
 -- what each line tells, by the lines before it
 pub told-more : {X Y : Type 0} (f : Placed X → Option Y) (lines : List X) (line : X)
     → filter_map f (placed (lines ++ line ∷ [])) ≡ filter_map f (placed lines)
@@ -31,7 +28,10 @@ pub told-more : {X Y : Type 0} (f : Placed X → Option Y) (lines : List X) (lin
 told-more f lines line =
     ap (filter_map f) (placed-more lines line)
     ∙ (filter_map-append f (placed lines) (record { before = lines; line = line } ∷ [])
-    ∙ ap (λ xs. filter_map f (placed lines) ++ xs) (one_or_none (f (record { before = lines; line = line }))))
+    ∙ ap (λ xs. filter_map f (placed lines) ++ xs) (cons_option-list (f (record {
+      before = lines;
+      line = line;
+    }))))
 
 -- the first line that passes, by the lines before it
 pub found-more : {X : Type 0} (p : Placed X → Bool) (lines : List X) (line : X)
@@ -44,15 +44,3 @@ pub refused-more : {X F : Type 0} (reason : Placed X → Option F) (lines : List
     → first_refused reason (lines ++ line ∷ []) ≡ option_or (first_refused reason lines)
     (find (λ p. is_some (reason p)) (record { before = lines; line = line } ∷ []))
 refused-more reason lines line = found-more (λ p. is_some (reason p)) lines line
-
--- the texts of the lines that pass a test
-pub picked-more : {X Y : Type 0} (p : X → Bool) (f : X → Y) (lines : List X) (line : X)
-    → map f (filter p (lines ++ line ∷ [])) ≡ map f (filter p lines) ++ cond (p line) (f line ∷ []) []
-picked-more p f lines line =
-    ap (map f) (filter-append p lines (line ∷ []))
-    ∙ (map-append f (filter p lines) (filter p (line ∷ []))
-    ∙ ap (λ xs. map f (filter p lines) ++ xs) (by (p line)))
-  where
-    by : (b : Bool) → map f (cond b (line ∷ []) []) ≡ cond b (f line ∷ []) []
-    by true = refl
-    by false = refl

@@ -1,22 +1,13 @@
 -- The first refused line of a list, after one more line; what holds of lists without a refused line.
-use Rattle.std.proofs.Common.{◌≡◌, List, [], ◌∷◌, ◌++◌, Bool, true, false, cond, Option, Some, None, IfSome}
+use Rattle.std.proofs.Common.{◌≡◌, List, [], ◌∷◌, ◌++◌, true, cond, Option, Some, None, IfSome}
 use Rattle.std.proofs.Common.{is_some, refl, sym, ◌∙◌, ap, subst}
 use Rattle.std.specs.List.{find}
 use Rattle.std.specs.Option.{option_and_then, option_or}
 use Rattle.std.proofs.lemmas.Bool.{true≢false}
 use Rattle.std.proofs.lemmas.List.{append-nil, append_assoc}
+use Rattle.list_lemmas.proofs.Found.{find_passes}
 use Rattle.paje_defs.specs.Refusals.{Placed, first_refused, placed, placed_behind, refusal}
 use Rattle.paje_defs.proofs.PlacedMore.{refused-more}
-
--- the first that is found passes
-find_passes : {X : Type 0} (p : X → Bool) (xs : List X) → IfSome (find p xs) (λ x. p x ≡ true)
-find_passes p [] = tt
-find_passes p (x ∷ xs) = by (p x) refl (find_passes p xs)
-  where
-    by : (b : Bool) → p x ≡ b → IfSome (find p xs) (λ x. p x ≡ true) → IfSome (cond b (Some x) (find p xs))
-        (λ x. p x ≡ true)
-    by true e later = e
-    by false e later = later
 
 none_refused_by : {X F : Type 0} (reason : Placed X → Option F) (first : Option (Placed X))
     → IfSome first (λ p. is_some (reason p) ≡ true) → option_and_then reason first ≡ None → first ≡ None

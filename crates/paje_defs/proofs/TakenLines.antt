@@ -7,6 +7,7 @@ use Rattle.std.specs.Str.{bytes_eq}
 use Rattle.std.proofs.lemmas.Bool.{true≢false}
 use Rattle.std.proofs.lemmas.List.{append-nil, append_assoc}
 use Rattle.std.proofs.lemmas.Slice.Eq.{bytes_eq-Decides}
+use Rattle.list_lemmas.proofs.Options.{is_None}
 use Rattle.paje_defs.specs.declared.event_name.EventName.{EventName}
 use Rattle.paje_defs.specs.declared.definition.Definition.{Definition}
 use Rattle.paje_defs.specs.declared.begun.Begun.{Begun}
@@ -34,10 +35,6 @@ Keeps P = (before : List Line) (line : Line) → definition_reason_at (record { 
     ≡ None
     → P before → P (before ++ line ∷ [])
 
-none_is : {X : Type 0} (o : Option X) → is_some o ≡ false → o ≡ None
-none_is None e = refl
-none_is (Some x) e = absurd (true≢false e)
-
 abbrev pub taken_behind : List Line → List Line → List Line
 taken_behind before lines = option_map_or (λ p. p.before) (find is_refused (placed_behind before lines))
     (before ++ lines)
@@ -59,7 +56,7 @@ taken_keeps_behind P keeps before (line ∷ lines) holds =
         (λ all. P (option_map_or (λ p. p.before)
         (find is_refused (placed_behind (before ++ line ∷ []) lines)) all))
         (append_assoc before (line ∷ []) lines)
-        (later (keeps before line (none_is (definition_reason_at (record { before = before; line = line }))
+        (later (keeps before line (is_None (definition_reason_at (record { before = before; line = line }))
         is) holds))
 
 pub taken_keeps : (P : List Line → Type 0) → Keeps P → P [] → (lines : List Line)

@@ -30,6 +30,3 @@ pub use examples::{
 pub use fields::Fields;
 pub use role::Role;
 pub use table::DefTable;
-
-#[cfg(test)]
-mod tests;

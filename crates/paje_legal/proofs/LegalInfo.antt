@@ -2,7 +2,7 @@
 use Rattle.std.proofs.Common.{◌≡◌, ◌<◌, ◌≤◌, List, length, None, arith, ◌*◌}
 use Rattle.std.specs.List.{AllByRecursion}
 use Rattle.std.proofs.lemmas.List.Elements.{All-from_recursion}
-use Rattle.trace_base.proofs.Order.{all_mapped}
+use Rattle.list_lemmas.proofs.Each.{all_mapped}
 use Rattle.trace_base.specs.declared.limits.TheConstants.{MAX_CONTAINERS, MAX_LINK_EVENTS}
 use Rattle.trace_base.specs.Info.{IsLegalInfo, NamesExisting, JoinsExisting}
 use Rattle.trace_base.specs.Messages.{table_of, in_table_order, messages_started}
@@ -14,11 +14,11 @@ use Rattle.paje_lines.specs.Containers.{containers_in}
 use Rattle.paje_lines.specs.States.{tracks_in}
 use Rattle.paje_lines.specs.Reasons.{event_refusal}
 use Rattle.paje_lines.specs.Text.{containers_of, links_of, names_of, info_said}
-use Rattle.paje_legal.proofs.Containers.{containers_within, containers-length, legal_containers}
-use Rattle.paje_legal.proofs.StateTypes.{kinds_within, kinds-length}
-use Rattle.paje_legal.proofs.Tracks.{tracks_within, tracks_exist, tracks_differ}
-use Rattle.paje_legal.proofs.Functions.{functions_within}
-use Rattle.paje_legal.proofs.LinkEvents.{links_within, links_exist}
+use Rattle.paje_lines.proofs.Containers.{containers_within, containers-length, legal_containers}
+use Rattle.paje_lines.proofs.StateTypes.{kinds_within, kinds-length}
+use Rattle.paje_lines.proofs.Tracks.{tracks_within, tracks_exist, tracks_differ}
+use Rattle.paje_lines.proofs.Functions.{functions_within}
+use Rattle.paje_lines.proofs.LinkEvents.{links_within, links_exist}
 use Rattle.paje_legal.proofs.MessagePairs.{messages_within, messages_between}
 
 containers_count : (lines : List EventLine) → event_refusal lines ≡ None

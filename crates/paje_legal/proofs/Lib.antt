@@ -1,14 +1,5 @@
-pub mod Containers
-pub mod DistinctItems
-pub mod Functions
 pub mod LegalInfo
-pub mod LinkEvents
-pub mod Lists
 pub mod MessagePairs
-pub mod NoReason
-pub mod StateEvents
-pub mod StateTypes
-pub mod StreamCalls
 pub mod StreamContainers
 pub mod StreamFits
 pub mod StreamLists
@@ -17,4 +8,3 @@ pub mod StreamReasons
 pub mod StreamRuns
 pub mod StreamSoFar
 pub mod StreamTracks
-pub mod Tracks

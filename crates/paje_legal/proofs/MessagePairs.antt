@@ -1,6 +1,6 @@
 -- The messages of link events: each takes two of them, so there are at most half as many, and its containers
 -- are theirs.
-use Rattle.std.proofs.Common.{◌≡◌, ℕ, ◌+◌, ◌-◌, ◌*◌, ◌<◌, ◌≤◌, suc, zero, List, [], ◌∷◌, ◌++◌, Bool, true}
+use Rattle.std.proofs.Common.{◌≡◌, ℕ, ◌+◌, ◌-◌, ◌*◌, ◌<◌, ◌≤◌, List, [], ◌∷◌, ◌++◌, Bool, true}
 use Rattle.std.proofs.Common.{false}
 use Rattle.std.proofs.Common.{not, ◌&&◌, ◌==◌, nat_eq, cond, filter, fold, take, Option, Some, None}
 use Rattle.std.proofs.Common.{add-zero, filter_map, length, slice_get, refl, sym, ◌∙◌, ap, subst, arith}
@@ -11,90 +11,16 @@ use Rattle.std.proofs.lemmas.Bool.{and_parts, eqb-true}
 use Rattle.std.proofs.lemmas.List.{append_assoc, length-append, take_at}
 use Rattle.std.proofs.lemmas.List.Elements.{filter-append, filter_agree}
 use Rattle.std.proofs.lemmas.Option.{none-some, same_Some, option_and_then_some}
-use Rattle.trace_base.proofs.Order.{all_filter}
+use Rattle.list_lemmas.proofs.Booleans.{one_if}
+use Rattle.list_lemmas.proofs.Each.{all_append, all_at, all_filter, all_told}
+use Rattle.list_lemmas.proofs.Filters.{filter_filter_and, length-filter_cons, length-filter_parts}
+use Rattle.list_lemmas.proofs.Filters.{length-filter_without, length-without_first, without_first}
+use Rattle.list_lemmas.proofs.Options.{cond_given}
+use Rattle.list_lemmas.proofs.Positions.{before_end, past_end, slice_get-middle}
 use Rattle.trace_base.specs.Messages.{is_joined, starts_like, ends_like, message_between, message_from}
 use Rattle.trace_base.specs.Messages.{message_at, messages_started, comes_before, put, in_table_order}
 use Rattle.trace_base.specs.declared.messages.LinkEvent.{LinkEvent}
 use Rattle.trace_base.specs.declared.messages.Message.{Message}
-use Rattle.paje_legal.proofs.Lists.{all_joined, found_has}
-
--- ---- parts of lists
-
--- 1 where it holds
-abbrev one : Bool → ℕ
-one b = cond b 1 0
-
-counted : {X : Type 0} (p : X → Bool) (x : X) (xs : List X)
-    → length (filter p (x ∷ xs)) ≡ cond (p x) 1 0 + length (filter p xs)
-counted p x xs = by (p x)
-  where
-    by : (b : Bool) → length (cond b (x ∷ filter p xs) (filter p xs)) ≡ cond b 1 0 + length (filter p xs)
-    by true = omega arith
-    by false = omega arith
-
--- those that pass, and the rest
-two_parts : {X : Type 0} (p : X → Bool) (xs : List X)
-    → length (filter (λ x. not (p x)) xs) + length (filter p xs) ≡ length xs
-two_parts p [] = refl
-two_parts p (x ∷ xs) =
-    let out = counted (λ x. not (p x)) x xs in
-    let inside = counted p x xs in
-    let later = two_parts p xs in
-    by (p x) out inside later
-  where
-    by : (b : Bool)
-        → length (filter (λ x. not (p x)) (x ∷ xs)) ≡ cond (not b) 1 0 + length (filter (λ x. not (p x)) xs)
-        → length (filter p (x ∷ xs)) ≡ cond b 1 0 + length (filter p xs)
-        → length (filter (λ x. not (p x)) xs) + length (filter p xs) ≡ length xs
-        → length (filter (λ x. not (p x)) (x ∷ xs)) + length (filter p (x ∷ xs)) ≡ length (x ∷ xs)
-    by true out inside later = omega (arith, out, inside, later)
-    by false out inside later = omega (arith, out, inside, later)
-
-both_tests : {X : Type 0} (p q : X → Bool) (xs : List X)
-    → filter p (filter q xs) ≡ filter (λ x. q x && p x) xs
-both_tests p q [] = refl
-both_tests p q (x ∷ xs) = by (q x) (p x) (both_tests p q xs)
-  where
-    by : (b c : Bool) → filter p (filter q xs) ≡ filter (λ x. q x && p x) xs
-        → filter p (cond b (x ∷ filter q xs) (filter q xs))
-        ≡ cond (b && p x) (x ∷ filter (λ x. q x && p x) xs) (filter (λ x. q x && p x) xs)
-    by true c later = ap (λ ys. cond (p x) (x ∷ ys) ys) later
-    by false c later = later
-
--- the list without the first that passes
-abbrev without : {X : Type 0} → (X → Bool) → List X → List X
-without p [] = []
-without p (x ∷ xs) = cond (p x) xs (x ∷ without p xs)
-
--- one of those that pass another test goes where they are the same, and none where they differ
-removed : {X : Type 0} (p q : X → Bool) (b : Bool) → ((x : X) → p x ≡ true → q x ≡ b) → (xs : List X)
-    → 0 < length (filter p xs) → length (filter q (without p xs)) + cond b 1 0 ≡ length (filter q xs)
-removed p q b same [] some = absurd (omega (arith, some))
-removed p q b same (x ∷ xs) some = by (p x) refl some (removed p q b same xs)
-  where
-    by : (c : Bool) → p x ≡ c → 0 < length (cond c (x ∷ filter p xs) (filter p xs))
-        → (0 < length (filter p xs)
-        → length (filter q (without p xs)) + cond b 1 0 ≡ length (filter q xs))
-        → length (filter q (cond c xs (x ∷ without p xs))) + cond b 1 0 ≡ length (filter q (x ∷ xs))
-    by true e some later =
-        let here = counted q x xs in
-        let is : one (q x) ≡ one b = ap one (same x e) in
-        omega (arith, here, is)
-    by false e some later =
-        let here = counted q x xs in
-        let there = counted q x (without p xs) in
-        let kept = later some in
-        omega (arith, here, there, kept)
-
-passes_all : {X : Type 0} (xs : List X) → filter (λ x. true) xs ≡ xs
-passes_all [] = refl
-passes_all (x ∷ xs) = ap (λ ys. x ∷ ys) (passes_all xs)
-
-shorter : {X : Type 0} (p : X → Bool) (xs : List X) → 0 < length (filter p xs)
-    → length (without p xs) + 1 ≡ length xs
-shorter p xs some =
-    ap (λ ys. length ys + 1) (sym (passes_all (without p xs)))
-    ∙ (removed p (λ x. true) true (λ x e. refl) xs some ∙ ap length (passes_all xs))
 
 -- ---- one type and key
 
@@ -128,7 +54,7 @@ starts-more : (l x : LinkEvent) (links : List LinkEvent)
 starts-more l x links =
     ap length (filter-append (λ m. m.starts && is_joined m l) links (x ∷ []))
     ∙ (length-append (starts_like l links) (starts_like l (x ∷ []))
-    ∙ ap (λ n. starts_of l links + n) (counted (λ m. m.starts && is_joined m l) x []
+    ∙ ap (λ n. starts_of l links + n) (length-filter_cons (λ m. m.starts && is_joined m l) x []
     ∙ add-zero (cond (x.starts && is_joined x l) 1 0)))
 
 same_starts : (l x : LinkEvent) (links : List LinkEvent) → is_joined x l ≡ true
@@ -151,7 +77,10 @@ AreLeft links before left = (l : LinkEvent)
 
 left_at_first : (links : List LinkEvent) → AreLeft links [] (filter (λ m. not m.starts) links)
 left_at_first links l =
-    let all = ap length (both_tests (λ m. is_joined m l) (λ m. not m.starts) links) in omega (arith, all)
+    let all = ap length (filter_filter_and (λ m. is_joined m l) (λ m. not m.starts) links) in omega (
+      arith,
+      all,
+    )
 
 -- a link event that starts no message takes none
 left_kept : (links before left : List LinkEvent) (x : LinkEvent) → AreLeft links before left
@@ -162,15 +91,17 @@ left_kept links before left x are past l = by x.starts (is_joined x l) refl refl
         → starts_of l (before ++ x ∷ []) ≡ starts_of l before + cond (x.starts && is_joined x l) 1 0
         → length (filter (λ m. is_joined m l) left) ≡ ends_of l links - starts_of l (before ++ x ∷ [])
     by false c e f more =
-        let none : one (x.starts && is_joined x l) ≡ 0 = ap (λ b. one (b && is_joined x l)) e in
+        let none : one_if (x.starts && is_joined x l) ≡ 0 = ap (λ b. one_if (b && is_joined x l)) e in
         let is = are l in
         omega (arith, more, none, is)
     by true false e f more =
-        let none : one (x.starts && is_joined x l) ≡ 0 = ap (λ b. one (b && is_joined x l)) e ∙ ap one f in
+        let none : one_if (x.starts && is_joined x l) ≡ 0 = ap (λ b. one_if (b && is_joined x l)) e
+        ∙ ap one_if f in
         let is = are l in
         omega (arith, more, none, is)
     by true true e f more =
-        let some : one (x.starts && is_joined x l) ≡ 1 = ap (λ b. one (b && is_joined x l)) e ∙ ap one f in
+        let some : one_if (x.starts && is_joined x l) ≡ 1 = ap (λ b. one_if (b && is_joined x l)) e
+        ∙ ap one_if f in
         let full = past e in
         let starts = same_starts l x before f in
         let ends = same_ends l x links f in
@@ -180,13 +111,13 @@ left_kept links before left x are past l = by x.starts (is_joined x l) refl refl
 -- one that starts a message takes one of its type and key
 left_taken : (links before left : List LinkEvent) (x : LinkEvent) → AreLeft links before left
     → x.starts ≡ true → 0 < length (filter (λ m. is_joined m x) left)
-    → AreLeft links (before ++ x ∷ []) (without (λ m. is_joined m x) left)
+    → AreLeft links (before ++ x ∷ []) (without_first (λ m. is_joined m x) left)
 left_taken links before left x are starts some l =
-    let fewer = removed (λ m. is_joined m x) (λ m. is_joined m l) (is_joined x l)
+    let fewer = length-filter_without (λ m. is_joined m x) (λ m. is_joined m l) (is_joined x l)
     (λ m e. joined_left m x l e) left some in
     let more = starts-more l x before in
-    let same : one (x.starts && is_joined x l) ≡ one (is_joined x l) =
-    ap (λ b. one (b && is_joined x l)) starts in
+    let same : one_if (x.starts && is_joined x l) ≡ one_if (is_joined x l) =
+    ap (λ b. one_if (b && is_joined x l)) starts in
     let is = are l in
     omega (arith, fewer, more, same, is)
 
@@ -196,19 +127,13 @@ left_taken links before left x are starts some l =
 abbrev started_from : List LinkEvent → ℕ → List LinkEvent → ℕ
 started_from links n rest = length (filter_map (message_at links) (range_with_len n (length rest)))
 
-get_at : {X : Type 0} (before rest : List X) (x : X) (n : ℕ) → length before ≡ n
-    → slice_get (before ++ x ∷ rest) n ≡ Some x
-get_at [] rest x zero is = refl
-get_at [] rest x (suc n) is = absurd (omega (arith, is))
-get_at (y ∷ before) rest x zero is = absurd (omega (arith, is))
-get_at (y ∷ before) rest x (suc n) is = get_at before rest x n (omega (arith, is))
-
 -- the message of a link event, by those before it
 message-here : (links before rest : List LinkEvent) (x : LinkEvent) (n : ℕ) → links ≡ before ++ x ∷ rest
     → length before ≡ n → message_at links n
     ≡ cond x.starts (option_map (message_between x) (slice_get (ends_like x links) (starts_of x before))) None
 message-here links before rest x n are at =
-    let got : slice_get links n ≡ Some x = ap (λ ls. slice_get ls n) are ∙ get_at before rest x n at in
+    let got : slice_get links n ≡ Some x = ap (λ ls. slice_get ls n) are
+    ∙ slice_get-middle before rest x n at in
     let front : take n links ≡ before = ap (take n) are ∙ take_at before (x ∷ rest) n at in
     ap (option_and_then (message_from links n)) got
     ∙ ap (λ ls. cond x.starts (option_map (message_between x) (slice_get (ends_like x links)
@@ -217,22 +142,6 @@ message-here links before rest x n are at =
 not_some : (o : Option LinkEvent) (f : LinkEvent → Message) → option_map f o ≡ None → o ≡ None
 not_some None f e = refl
 not_some (Some l) f e = absurd (none-some (f l) (sym e))
-
-past_end : {X : Type 0} (xs : List X) (k : ℕ) → slice_get xs k ≡ None → length xs ≤ k
-past_end [] k e = omega arith
-past_end (x ∷ xs) zero e = absurd (none-some x (sym e))
-past_end (x ∷ xs) (suc k) e = let later = past_end xs k e in omega (arith, later)
-
-found_before_end : {X Y : Type 0} (f : X → Y) (xs : List X) (k : ℕ) (y : Y)
-    → option_map f (slice_get xs k) ≡ Some y → k < length xs
-found_before_end f [] k y e = absurd (none-some y e)
-found_before_end f (x ∷ xs) zero y e = omega arith
-found_before_end f (x ∷ xs) (suc k) y e = let later = found_before_end f xs k y e in omega (arith, later)
-
-started_parts : (b : Bool) (o : Option Message) (m : Message) → cond b o None ≡ Some m → (b ≡ true)
-    × (o ≡ Some m)
-started_parts true o m e = (refl, e)
-started_parts false o m e = absurd (none-some m e)
 
 -- there are no more than ends that are left, and no more than starts
 messages_from : (links before rest left : List LinkEvent) (n : ℕ) → links ≡ before ++ rest
@@ -265,19 +174,19 @@ messages_from links before (x ∷ rest) left n are at free =
         (not_some (slice_get (ends_like x links) (starts_of x before)) (message_between x)
         (ap (λ b. cond b (option_map (message_between x) (slice_get (ends_like x links) (starts_of x before)))
         None) (sym starts) ∙ (sym here ∙ e))))) in
-        let starts = counted (λ m. m.starts) x rest in
+        let starts = length-filter_cons (λ m. m.starts) x rest in
         (rest_of.0, omega (arith, rest_of, starts))
     by (Some m) e later =
-        let parts = started_parts x.starts (option_map (message_between x) (slice_get (ends_like x links)
+        let parts = cond_given x.starts (option_map (message_between x) (slice_get (ends_like x links)
         (starts_of x before))) m (sym here ∙ e) in
-        let below = found_before_end (message_between x) (ends_like x links) (starts_of x before) m parts.1 in
+        let below = before_end (message_between x) (ends_like x links) (starts_of x before) m parts.1 in
         let free_here = free x in
         let some : 0 < length (filter (λ m. is_joined m x) left) = omega (arith, below, free_here) in
-        let fewer = shorter (λ m. is_joined m x) left some in
-        let rest_of = later (without (λ m. is_joined m x) left)
+        let fewer = length-without_first (λ m. is_joined m x) left some in
+        let rest_of = later (without_first (λ m. is_joined m x) left)
         (left_taken links before left x free parts.0 some) in
-        let starts = counted (λ m. m.starts) x rest in
-        let is : one x.starts ≡ 1 = ap one parts.0 in
+        let starts = length-filter_cons (λ m. m.starts) x rest in
+        let is : one_if x.starts ≡ 1 = ap one_if parts.0 in
         (omega (arith, rest_of, fewer), omega (arith, rest_of, starts, is))
 
 -- ---- in the order of a table
@@ -286,7 +195,7 @@ put_length : (m : Message) (table : List Message) → length (put m table) ≡ l
 put_length m table =
     let both = length-append (filter (λ n. not (comes_before m n)) table)
     (m ∷ filter (comes_before m) table) in
-    let parts = two_parts (comes_before m) table in
+    let parts = length-filter_parts (comes_before m) table in
     omega (arith, both, parts)
 
 fold_length : (table messages : List Message)
@@ -303,7 +212,7 @@ in_table_order-length messages = let all = fold_length [] messages in omega (ari
 
 put_all : (P : Message → Type 0) (m : Message) (table : List Message) → P m → AllByRecursion P table
     → AllByRecursion P (put m table)
-put_all P m table is all = all_joined P (filter (λ n. not (comes_before m n)) table)
+put_all P m table is all = all_append P (filter (λ n. not (comes_before m n)) table)
     (m ∷ filter (comes_before m) table) (all_filter P (λ n. not (comes_before m n)) table all)
     (is, all_filter P (comes_before m) table all)
 
@@ -327,19 +236,9 @@ unfolding messages_started
 messages_within links =
     let both = messages_from links [] links (filter (λ m. not m.starts) links) 0 refl refl
     (left_at_first links) in
-    let parts = two_parts (λ m. m.starts) links in
+    let parts = length-filter_parts (λ m. m.starts) links in
     let same = in_table_order-length (messages_started links) in
     omega (arith, both, parts, same)
-
-told_all : {X Y : Type 0} (h : X → Option Y) (P : Y → Type 0) → ((x : X) (y : Y) → h x ≡ Some y → P y)
-    → (xs : List X) → AllByRecursion P (filter_map h xs)
-told_all h P holds [] = tt
-told_all h P holds (x ∷ xs) = by (h x) refl (told_all h P holds xs)
-  where
-    by : (o : Option _) → h x ≡ o → AllByRecursion P (filter_map h xs)
-        → AllByRecursion P (cons_option o (filter_map h xs))
-    by None e later = later
-    by (Some y) e later = (holds x y e, later)
 
 -- a message is between the containers of two of them
 abbrev IsBetween : ℕ → Message → Type 0
@@ -358,11 +257,11 @@ pub messages_between : (links : List LinkEvent) (containers : ℕ)
     (in_table_order (messages_started links))
 unfolding messages_started
 messages_between links containers all = in_table_order-all (IsBetween containers) (messages_started links)
-    (told_all (message_at links) (IsBetween containers) (λ i m e.
+    (all_told (message_at links) (IsBetween containers) (λ i m e.
     option_and_then_some {P = IsBetween containers m} (message_from links i) (slice_get links i) m e
     (λ l got from. between_by containers l m
     (slice_get (ends_like l links) (starts_of l (take i links)))
-    (found_has (λ l. l.container < containers) links i l all got)
-    (λ end is. found_has (λ l. l.container < containers) (ends_like l links) (starts_of l (take i links)) end
+    (all_at (λ l. l.container < containers) links i l all got)
+    (λ end is. all_at (λ l. l.container < containers) (ends_like l links) (starts_of l (take i links)) end
     (all_filter (λ l. l.container < containers) (λ m. not m.starts && is_joined m l) links all) is)
-    (started_parts l.starts _ m from).1)) (range_with_len 0 (length links)))
+    (cond_given l.starts _ m from).1)) (range_with_len 0 (length links)))

@@ -6,14 +6,14 @@ use Rattle.std.specs.Prelude.{All}
 use Rattle.std.specs.Option.{option_map}
 use Rattle.std.proofs.lemmas.List.Elements.{All-weaker, All-push, All-nil, All-cons}
 use Rattle.std.proofs.lemmas.List.Elements.{All-head, All-tail, All-same}
+use Rattle.list_lemmas.proofs.Fronts.{each_front}
 use Rattle.paje_defs.specs.Refusals.{Placed, placed, placed_behind}
 use Rattle.paje_defs.specs.declared.role.Role.TheVariants as roles
 use Rattle.paje_defs.proofs.PlacedMore.{placed-more}
 use Rattle.paje_lines.specs.EventLine.{EventLine, text_of}
 use Rattle.paje_lines.specs.Containers.{containers_in}
 use Rattle.paje_lines.specs.Containers.{ends_container, destruction}
-use Rattle.paje_legal.proofs.Containers.{containers_kept, named_exists, ends_named}
-use Rattle.paje_legal.proofs.Lists.{each_front}
+use Rattle.paje_lines.proofs.Containers.{containers_kept, named_exists, ends_named}
 
 -- ---- each line of a list
 

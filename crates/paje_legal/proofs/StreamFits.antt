@@ -18,10 +18,10 @@ use Rattle.paje_lines.specs.States.{tracks_in, states_of, last_time, open_calls,
 use Rattle.paje_lines.specs.Reasons.{event_refusal}
 use Rattle.paje_lines.specs.Text.{events_at, events_of, track_stream, text_said, names_of, info_said}
 use Rattle.paje_lines.specs.Text.{container_of, containers_of}
-use Rattle.paje_legal.proofs.Containers.{end_in_time, containers-get}
-use Rattle.paje_legal.proofs.Functions.{functions_within}
-use Rattle.paje_legal.proofs.StateEvents.{states_within}
-use Rattle.paje_legal.proofs.Tracks.{found_track_exists}
+use Rattle.paje_lines.proofs.Containers.{end_in_time, containers-get}
+use Rattle.paje_lines.proofs.Functions.{functions_within}
+use Rattle.paje_lines.proofs.StateEvents.{states_within}
+use Rattle.paje_lines.proofs.Tracks.{found_track_exists}
 use Rattle.paje_legal.proofs.StreamRuns.{Runs, runs-append, runs-left, IsLegal-from_runs, numbered-at}
 use Rattle.paje_legal.proofs.StreamTracks.{Exists, last_time-within}
 use Rattle.paje_legal.proofs.StreamSoFar.{sofar}

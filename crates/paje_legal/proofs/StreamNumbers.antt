@@ -10,6 +10,7 @@ use Rattle.std.proofs.lemmas.List.{length-append}
 use Rattle.std.proofs.lemmas.List.Elements.{All-append, All-replicate, All-nil, All-cons, All-filter}
 use Rattle.std.proofs.lemmas.List.Elements.{All-weaker}
 use Rattle.std.proofs.lemmas.List.Elements.{filter-append}
+use Rattle.list_lemmas.proofs.All.{All-made, All-places, All-untold}
 use Rattle.trace_base.specs.Stream.{is_enter}
 use Rattle.trace_base.specs.declared.names.Track.{Track}
 use Rattle.trace_base.specs.declared.stream.Event.{Event}
@@ -21,7 +22,7 @@ use Rattle.paje_lines.specs.States.{states_of, states_in, is_on, open_calls, ent
 use Rattle.paje_lines.specs.States.{functions_entered, function_number}
 use Rattle.paje_lines.specs.Text.{left_at, entered_at, events_at, events_of}
 use Rattle.paje_legal.proofs.StreamRuns.{IsNumbered}
-use Rattle.paje_legal.proofs.StreamLists.{All-made, All-from_distinct, each-found, each-tells}
+use Rattle.paje_legal.proofs.StreamLists.{All-from_distinct}
 use Rattle.paje_legal.proofs.StreamTracks.{states-few}
 
 -- ---- how many there are
@@ -93,10 +94,10 @@ IsAmong functions text = position_or_len (bytes_eq text) functions < length func
 
 texts-among : (lines : List EventLine)
     → All (λ p. IfSome (entered_text p) (IsAmong (functions_entered lines))) (placed lines)
-texts-among lines = each-tells entered_text (IsAmong (functions_entered lines)) (placed lines)
+texts-among lines = All-untold entered_text (IsAmong (functions_entered lines)) (placed lines)
     (All-from_distinct bytes_eq (λ x y e. (bytes_decides x y).0 e) (IsAmong (functions_entered lines))
     (filter_map entered_text (placed lines))
-    (each-found bytes_eq (λ x. (bytes_decides x x).1 refl) (functions_entered lines)))
+    (All-places bytes_eq (λ x. (bytes_decides x x).1 refl) (functions_entered lines)))
 
 left-numbered : (n : ℕ) (track : Track) (p : Placed EventLine) → All (IsNumbered n) (left_at track p)
 left-numbered n track p = by (clears p.line.event) (pops p.line.event)

@@ -1,12 +1,13 @@
 -- Events that go on from one time and one count of open calls to another.
-use Rattle.std.proofs.Common.{◌≡◌, ◌≢◌, ℕ, ◌+◌, ◌-◌, ◌≤◌, ◌<◌, zero, suc, List, [], ◌∷◌, ◌++◌, length, take}
-use Rattle.std.proofs.Common.{map, replicate, get_or, slice_get, fold, Some, refl, ap, sym, subst, ◌∙◌, arith}
-use Rattle.std.proofs.Common.{length-append, filter}
-use Rattle.std.proofs.lemmas.List.{length-take-le, nil_from_length}
+use Rattle.std.proofs.Common.{◌≡◌, ℕ, ◌+◌, ◌-◌, ◌≤◌, ◌<◌, zero, suc, List, [], ◌∷◌, ◌++◌, length, take}
+use Rattle.std.proofs.Common.{map, replicate, get_or, slice_get, fold, Some, refl, sym, subst, ◌∙◌, arith}
+use Rattle.std.proofs.Common.{filter}
+use Rattle.std.proofs.lemmas.List.{nil_from_length}
 use Rattle.std.proofs.lemmas.List.Sorted.{IsNonDecreasingBy-from_all_adjacent}
 use Rattle.std.proofs.lemmas.List.Elements.{All-get_or}
 use Rattle.std.proofs.lemmas.Option.{get_or_from_slice_get, slice_get_within, none-some}
 use Rattle.std.specs.Prelude.{All}
+use Rattle.list_lemmas.proofs.Fronts.{length_popped, length_pushed, not_nil}
 use Rattle.trace_base.specs.Stream.{time_of, is_enter, stack_step, stack_after, moments, IsLegal}
 use Rattle.trace_base.specs.declared.limits.TheConstants.{MAX_TIME, MAX_OPEN_CALLS, MAX_STATE_EVENTS}
 use Rattle.trace_base.specs.declared.limits.TheConstants.{MAX_FUNCTIONS}
@@ -50,19 +51,13 @@ runs-left (suc n) a t order = (
 
 -- ---- what they mean for the call stack
 
-pushed-length : (stack : List ℕ) (f n : ℕ) → length stack ≡ n → length (stack ++ f ∷ []) ≡ n + 1
-pushed-length stack f n is = omega (arith, length-append stack (f ∷ []))
-
-popped-length : (stack : List ℕ) (n : ℕ) → length stack ≡ n → length (take (length stack - 1) stack) ≡ n - 1
-popped-length stack n is = length-take-le (length stack - 1) stack (omega arith) ∙ ap (λ m. m - 1) is
-
 depth-after : (es : List Event) (a n b m : ℕ) → Runs a n es b m → (stack : List ℕ) → length stack ≡ n
     → length (fold stack_step stack es) ≡ m
 depth-after [] a n b m (order, same) stack is = is ∙ same
 depth-after (Enter f t ∷ es) a n b m (order, room, later) stack is =
-    depth-after es t (n + 1) b m later (stack ++ f ∷ []) (pushed-length stack f n is)
+    depth-after es t (n + 1) b m later (stack ++ f ∷ []) (length_pushed stack f n is)
 depth-after (Leave t ∷ es) a n b m (order, some, later) stack is =
-    depth-after es t (n - 1) b m later (take (length stack - 1) stack) (popped-length stack n is)
+    depth-after es t (n - 1) b m later (take (length stack - 1) stack) (length_popped stack n is)
 
 depth-within : (es : List Event) (a n b m : ℕ) → Runs a n es b m → n ≤ MAX_OPEN_CALLS → (stack : List ℕ)
     → length stack ≡ n → (i : ℕ) → length (fold stack_step stack (take i es)) ≤ MAX_OPEN_CALLS
@@ -71,10 +66,10 @@ depth-within [] a n b m runs within stack is (suc i) = omega arith
 depth-within (Enter f t ∷ es) a n b m runs within stack is zero = omega arith
 depth-within (Leave t ∷ es) a n b m runs within stack is zero = omega arith
 depth-within (Enter f t ∷ es) a n b m (order, room, later) within stack is (suc i) =
-    depth-within es t (n + 1) b m later room (stack ++ f ∷ []) (pushed-length stack f n is) i
+    depth-within es t (n + 1) b m later room (stack ++ f ∷ []) (length_pushed stack f n is) i
 depth-within (Leave t ∷ es) a n b m (order, some, later) within stack is (suc i) =
     depth-within es t (n - 1) b m later (omega arith) (take (length stack - 1) stack)
-    (popped-length stack n is) i
+    (length_popped stack n is) i
 
 some-open : (es : List Event) (a n b m : ℕ) → Runs a n es b m → (stack : List ℕ) → length stack ≡ n
     → (i t : ℕ) → slice_get es i ≡ Some (Leave t) → 1 ≤ length (fold stack_step stack (take i es))
@@ -82,9 +77,9 @@ some-open [] a n b m runs stack is i t at = absurd (none-some (Leave t) at)
 some-open (Enter f s ∷ es) a n b m runs stack is zero t at = absurd cc
 some-open (Leave s ∷ es) a n b m (order, some, later) stack is zero t at = omega arith
 some-open (Enter f s ∷ es) a n b m (order, room, later) stack is (suc i) t at =
-    some-open es s (n + 1) b m later (stack ++ f ∷ []) (pushed-length stack f n is) i t at
+    some-open es s (n + 1) b m later (stack ++ f ∷ []) (length_pushed stack f n is) i t at
 some-open (Leave s ∷ es) a n b m (order, some, later) stack is (suc i) t at =
-    some-open es s (n - 1) b m later (take (length stack - 1) stack) (popped-length stack n is) i t at
+    some-open es s (n - 1) b m later (take (length stack - 1) stack) (length_popped stack n is) i t at
 
 -- ---- and for the times
 
@@ -111,10 +106,6 @@ pub numbered-at : (n : ℕ) (es : List Event) → All (IsNumbered n) es → (i f
 numbered-at n es all i f t at = subst (IsNumbered n) (get_or_from_slice_get es i (Enter f t) (Leave 0) at)
     (All-get_or (IsNumbered n) es i (Leave 0) (slice_get_within es i (Enter f t) at) all)
 
-not_nil : (stack : List ℕ) → 1 ≤ length stack → stack ≢ []
-not_nil [] some = absurd (omega arith)
-not_nil (x ∷ xs) some = λ e. cc
-
 pub IsLegal-from_runs : (s : TrackStream) (n : ℕ) → s.end ≤ MAX_TIME → Runs s.start 0 s.events s.end 0
     → length (filter is_enter s.events) ≤ MAX_STATE_EVENTS → All (IsNumbered n) s.events → n ≤ MAX_FUNCTIONS
     → IsLegal s
@@ -135,3 +126,10 @@ IsLegal-from_runs s n in_time runs calls numbered few = record {
       let known = numbered-at n s.events numbered i f t at in
       (known.0, omega (arith, known.1, few));
 }
+
+pub runs-order : (es : List Event) (a n b m : ℕ) → Runs a n es b m → a ≤ b
+runs-order [] a n b m (order, same) = order
+runs-order (Enter f t ∷ es) a n b m (order, room, later) =
+    omega (arith, order, runs-order es t (n + 1) b m later)
+runs-order (Leave t ∷ es) a n b m (order, some, later) =
+    omega (arith, order, runs-order es t (n - 1) b m later)

@@ -9,6 +9,7 @@ use Rattle.std.specs.Option.{option_map, option_map_or, option_or}
 use Rattle.std.proofs.lemmas.Bool.{true≢false, and_left, cases_lt, false_from_ne_true}
 use Rattle.std.proofs.lemmas.List.{map_push}
 use Rattle.std.proofs.lemmas.List.Concat.{flat_map-append}
+use Rattle.list_lemmas.proofs.Last.{last-push}
 use Rattle.trace_base.specs.declared.limits.TheConstants.{MAX_OPEN_CALLS}
 use Rattle.trace_base.specs.declared.names.Track.{Track}
 use Rattle.trace_base.specs.declared.stream.Event.{Event}
@@ -26,12 +27,12 @@ use Rattle.paje_lines.specs.States.{states_of, is_on, open_behind, open_calls}
 use Rattle.paje_lines.specs.States.{function_number}
 use Rattle.paje_lines.specs.Reasons.{event_reason_at, event_refusal}
 use Rattle.paje_lines.specs.Text.{left_at, entered_at, events_at}
-use Rattle.paje_legal.proofs.Containers.{named_exists, start-more, destruction-more, ends_named, ends_late}
+use Rattle.paje_lines.proofs.Containers.{named_exists, start-more, destruction-more, ends_named, ends_late}
 use Rattle.paje_legal.proofs.StreamRuns.{Runs, runs-append, runs-left}
-use Rattle.paje_legal.proofs.StreamCalls.{AreEntered, Opens, opens-cleared, opens-pushed, opens-popped}
-use Rattle.paje_legal.proofs.StreamCalls.{last-push}
+use Rattle.paje_lines.proofs.StreamCalls.{AreEntered, Opens, opens-cleared, opens-pushed, opens-popped}
+use Rattle.paje_lines.proofs.MoreStates.{states-more}
 use Rattle.paje_legal.proofs.StreamContainers.{none-ended}
-use Rattle.paje_legal.proofs.StreamTracks.{Exists, Finds, On, finds-both, on-track, states-kept, states-more}
+use Rattle.paje_legal.proofs.StreamTracks.{Exists, Finds, On, finds-both, on-track, states-kept}
 use Rattle.paje_legal.proofs.StreamTracks.{states-none, last_time-latest}
 use Rattle.paje_legal.proofs.StreamReasons.{Allows, allows}
 

@@ -7,25 +7,25 @@ use Rattle.std.specs.List.{last_or}
 use Rattle.std.specs.Option.{option_map, option_map_or, option_zip}
 use Rattle.std.proofs.lemmas.Bool.{true≢false, eq-eqb}
 use Rattle.std.proofs.lemmas.List.Elements.{All-filter, All-weaker, All-head, All-tail}
-use Rattle.std.proofs.lemmas.List.Elements.{filter-append}
 use Rattle.std.proofs.lemmas.List.Sums.{length-filter}
 use Rattle.std.proofs.lemmas.Option.{none-some, same_Some}
+use Rattle.list_lemmas.proofs.All.{All-last, All-unfilter, All-unmap, All-untold}
+use Rattle.list_lemmas.proofs.Filters.{count_by-le, count_by-map}
+use Rattle.list_lemmas.proofs.Sums.{each_below, greatest_from}
 use Rattle.trace_base.specs.declared.names.Track.{Track}
 use Rattle.paje_defs.specs.Refusals.{Placed, placed}
 use Rattle.paje_defs.specs.declared.role.Role.TheVariants as roles
-use Rattle.paje_defs.proofs.PlacedMore.{placed-more}
 use Rattle.paje_lines.specs.EventLine.{EventLine, is_state_event, text_of}
 use Rattle.paje_lines.specs.Types.{kind_named}
 use Rattle.paje_lines.specs.Containers.{containers_in, container_named, container_start, greatest}
 use Rattle.paje_lines.specs.States.{track_named, track_at, is_same, tracks_in, is_on, states_of, states_in}
 use Rattle.paje_lines.specs.States.{last_time, container_tracks, latest}
 use Rattle.std.proofs.lemmas.List.Elements.{All-from_recursion}
-use Rattle.paje_legal.proofs.Containers.{each_in_time, start_in_time}
-use Rattle.paje_legal.proofs.Lists.{each_below, greatest_from}
-use Rattle.paje_legal.proofs.Tracks.{tells_track, tracks_exist}
+use Rattle.paje_lines.proofs.Containers.{each_in_time, start_in_time}
+use Rattle.paje_lines.proofs.Tracks.{tells_track, tracks_exist}
 use Rattle.paje_lines.specs.Types.{state_types}
-use Rattle.paje_legal.proofs.StreamLists.{each-tells, All-from_distinct}
-use Rattle.paje_legal.proofs.StreamLists.{filtered-holds, mapped-holds, last-holds, count-weaker, count-map}
+use Rattle.paje_lines.proofs.MoreStates.{states-more}
+use Rattle.paje_legal.proofs.StreamLists.{All-from_distinct}
 use Rattle.paje_legal.proofs.StreamContainers.{All-placed, lines-placed}
 
 -- ---- one track
@@ -72,14 +72,6 @@ on-track track p on = by (is_state_event p.line.event) refl (track_named p.befor
 
 -- ---- the state events of a track
 
-pub states-more : (lines : List EventLine) (line : EventLine) (track : Track) (b : Bool)
-    → is_on track (record { before = lines; line = line }) ≡ b → states_of (lines ++ line ∷ []) track
-    ≡ states_of lines track ++ cond b (record { before = lines; line = line } ∷ []) []
-states-more lines line track b is =
-    ap (filter (is_on track)) (placed-more lines line)
-    ∙ (filter-append (is_on track) (placed lines) (record { before = lines; line = line } ∷ [])
-    ∙ ap (λ b. states_of lines track ++ cond b (record { before = lines; line = line } ∷ []) []) is)
-
 pub states-kept : (lines : List EventLine) (line : EventLine) (track : Track)
     → is_on track (record { before = lines; line = line }) ≡ false
     → states_of (lines ++ line ∷ []) track ≡ states_of lines track
@@ -108,7 +100,7 @@ none-or P track (p ∷ ps) all = by (track_at p) (All-head Told p ps all)
 
 states-none_or : (P : Track → Type 0) (lines : List EventLine) → All P (tracks_in lines) → (track : Track)
     → (states_of lines track ≡ []) ⊎ P track
-states-none_or P lines all track = none-or P track (placed lines) (each-tells track_at P (placed lines)
+states-none_or P lines all track = none-or P track (placed lines) (All-untold track_at P (placed lines)
     (All-from_distinct is_same (λ s t. (tells_track s t).0) P (filter_map track_at (placed lines)) all))
 
 -- ---- the container of a track exists
@@ -143,7 +135,7 @@ last-within n start (Some p) within holds = holds
 pub last_time-within : (lines : List EventLine) (track : Track) → last_time lines track ≤ greatest lines
 last_time-within lines track = last-within (greatest lines) (container_start lines track.container)
     (last_or None (states_of lines track)) (start_in_time lines track.container)
-    (last-holds (λ p. p.line.time ≤ greatest lines) None (states_of lines track) tt
+    (All-last (λ p. p.line.time ≤ greatest lines) None (states_of lines track) tt
     (All-filter (is_on track) (λ p. p.line.time ≤ greatest lines) (placed lines)
     (All-placed (λ l. l.time ≤ greatest lines) lines
     (All-from_recursion (λ l. l.time ≤ greatest lines) lines (each_in_time lines)))))
@@ -160,8 +152,8 @@ last_time-latest lines track = by (states-none_or Early lines tracks-early track
     Early t = (t.container == c) ≡ true → last_time lines t ≤ latest lines c
 
     tracks-early : All Early (tracks_in lines)
-    tracks-early = filtered-holds (λ t. last_time lines t ≤ latest lines c) (λ t. t.container == c)
-        (tracks_in lines) (mapped-holds (λ t. t ≤ latest lines c) (last_time lines) (container_tracks lines c)
+    tracks-early = All-unfilter (λ t. last_time lines t ≤ latest lines c) (λ t. t.container == c)
+        (tracks_in lines) (All-unmap (λ t. t ≤ latest lines c) (last_time lines) (container_tracks lines c)
         (All-from_recursion (λ t. t ≤ latest lines c)
         (map (last_time lines) (container_tracks lines c)) (each_below (container_start lines c)
         (map (last_time lines) (container_tracks lines c)))))
@@ -181,8 +173,8 @@ pub states-few : (lines : List EventLine) (track : Track) → length (states_of 
 states-few lines track = omega (
   arith,
   length-filter (is_on track) (placed lines),
-  count-weaker (is_on track) (λ p. is_state_event p.line.event) (λ p on. (on-track track p on).state)
+  count_by-le (is_on track) (λ p. is_state_event p.line.event) (λ p on. (on-track track p on).state)
       (placed lines),
-  count-map (λ l. is_state_event l.event) (λ p. p.line) (placed lines),
+  count_by-map (λ l. is_state_event l.event) (λ p. p.line) (placed lines),
   ap (count_by (λ l. is_state_event l.event)) (lines-placed lines),
 )

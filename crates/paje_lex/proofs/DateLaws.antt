@@ -1,18 +1,20 @@
 -- The parts that are read of a text are those that it is written from.
 use Rattle.std.proofs.Common.{◌≡◌, ℕ, ◌+◌, ◌*◌, ◌/◌, ◌<◌, ◌≤◌, ◌&&◌, ◌||◌, ◌==◌, ◌⊎◌, inl, inr, List, []}
 use Rattle.std.proofs.Common.{◌∷◌, ◌++◌, length, take, drop, Bool, true, false, cond, ltb, leb, Option, Some}
-use Rattle.std.proofs.Common.{None, Result, Ok, Err, IfOk, sym, ◌∙◌, ap, refl, arith, suc, subst}
+use Rattle.std.proofs.Common.{None, Result, Ok, Err, IfOk, sym, ◌∙◌, ap, refl, arith, subst}
 use Rattle.std.specs.List.{prefix_len, list_all, take_while}
 use Rattle.std.specs.Option.{option_map, unwrap_or}
 use Rattle.std.specs.Char.{is_ascii_digit}
+use Rattle.std.proofs.lemmas.Bool.{or_cases}
+use Rattle.list_lemmas.proofs.Digits.{ten_pow_pos}
+use Rattle.list_lemmas.proofs.Fronts.{take_cons}
+use Rattle.list_lemmas.proofs.Numbers.{quotient_bounds}
 use Rattle.trace_base.specs.declared.limits.TheConstants.{MAX_TIME}
 use Rattle.std.specs.Str.Parse.{digits_value}
 use Rattle.std.proofs.lemmas.List.{take_at, drop_at, take-append-drop}
 use Rattle.std.proofs.lemmas.List.Folds.{length-prefix_len}
 use Rattle.std.proofs.lemmas.Bool.{true≢false, and_parts, eqb-true, ltb-true, lt-ltb, leb-true, le-leb}
 use Rattle.std.proofs.lemmas.Bool.Decides.{nat_tests}
-use Rattle.std.proofs.Math.Nat.{lt-div-mul-add}
-use Rattle.std.proofs.lemmas.Nat.{div-add-mod'}
 use Rattle.paje_lex.specs.declared.date_fault.DateFault.{DateFault}
 use Rattle.paje_lex.specs.declared.date_fault.DateFault.TheVariants.{Shape, Negative, Big}
 use Rattle.paje_lex.specs.DateGrammar.{Date, Exponent, date_text, fraction_text, exponent_text, IsSign}
@@ -21,16 +23,12 @@ use Rattle.paje_lex.specs.DateGrammar.{meaning, numerator, denominator}
 use Rattle.paje_lex.specs.DateReading.{is_sign, sign_len, fraction_of, fraction_at, are_exponent_digits}
 use Rattle.paje_lex.specs.DateReading.{is_exponent_letter, exponent_of, behind_digits, unsigned_of, body_of}
 use Rattle.paje_lex.specs.DateReading.{digits_at, date_parts, parts_of, meaning_or_shape, date_of}
-use Rattle.decimal_digits.proofs.HeldDigits.{ten_pow_pos}
 
 -- ---- what is read is a date, and is written as the text
 
-take_one : (n b : ℕ) (bs : List ℕ) → take (1 + n) (b ∷ bs) ≡ b ∷ take n bs
-take_one n b bs = let e : 1 + n ≡ suc n = omega arith in ap (λ k. take k (b ∷ bs)) e
-
 digits_first : (b : ℕ) (bs : List ℕ) → AreDigits (take_while is_ascii_digit bs) → (x : Bool)
     → is_ascii_digit b ≡ x → AreDigits (take (cond x (1 + prefix_len is_ascii_digit bs) 0) (b ∷ bs))
-digits_first b bs rest true e = rw (take_one (prefix_len is_ascii_digit bs) b bs) (e, rest)
+digits_first b bs rest true e = rw (take_cons (prefix_len is_ascii_digit bs) b bs) (e, rest)
 digits_first b bs rest false e = tt
 
 pub digits_front : (bytes : List ℕ) → AreDigits (take_while is_ascii_digit bytes)
@@ -75,12 +73,8 @@ fraction_split (b ∷ bs) = go (b == 46) refl
         (sym (ap (λ n. take_while is_ascii_digit bs ++ drop n bs) (length-prefix_len is_ascii_digit bs) ∙
         take-append-drop (prefix_len is_ascii_digit bs) bs))
 
-or_parts : (x y : Bool) → x || y ≡ true → (x ≡ true) ⊎ (y ≡ true)
-or_parts true y e = inl refl
-or_parts false y e = inr e
-
 letter_is : (b : ℕ) → is_exponent_letter b ≡ true → (b ≡ 101) ⊎ (b ≡ 69)
-letter_is b e = elim (or_parts (b == 101) (b == 69) e) [
+letter_is b e = elim (or_cases (b == 101) (b == 69) e) [
   | inl f ↦ inl (eqb-true b 101 f)
   | inr f ↦ inr (eqb-true b 69 f)
 ]
@@ -253,7 +247,7 @@ letter_true : (b : ℕ) → (b ≡ 101) ⊎ (b ≡ 69) → is_exponent_letter b 
 letter_true b (inl e) = let P : ℕ → Type 0 = λ x. is_exponent_letter x ≡ true in subst P (sym e) refl
 letter_true b (inr e) = let P : ℕ → Type 0 = λ x. is_exponent_letter x ≡ true in subst P (sym e) refl
 
-all_true : (bytes : List ℕ) → AreDigits bytes → list_all is_ascii_digit bytes ≡ true
+pub all_true : (bytes : List ℕ) → AreDigits bytes → list_all is_ascii_digit bytes ≡ true
 all_true [] are = refl
 all_true (b ∷ bs) (is, are) = rw is (all_true bs are)
 
@@ -373,16 +367,10 @@ meaning_value true b x ns e = cc
 meaning_value false true x ns e = cc
 meaning_value false false x ns e = cc
 
-floor_of : (a b ns : ℕ) → 0 < b → ns ≡ a / b → (ns * b ≤ a) × (a < (ns + 1) * b)
-floor_of a b ns some e = rw e (
-  omega (arith, div-add-mod' a b),
-  omega (arith, lt-div-mul-add {a = a} {b = b} some),
-)
-
 pub value_of : (d : Date) (r : Result ℕ DateFault) → r ≡ meaning d
     → IfOk r (λ ns. (ns * denominator d ≤ numerator d) × (numerator d < (ns + 1) * denominator d))
 value_of d (Err f) e = tt
-value_of d (Ok ns) e = floor_of (numerator d) (denominator d) ns (ten_pow_pos _)
+value_of d (Ok ns) e = quotient_bounds (numerator d) (denominator d) ns (ten_pow_pos _)
     (meaning_value (is_minus d.sign && ltb 0 (digits_value 10 (date_digits d)))
     (ltb (MAX_TIME * denominator d) (numerator d)) (numerator d / denominator d) ns e)
 

@@ -7,6 +7,7 @@ use Rattle.std.specs.Option.{option_map}
 use Rattle.std.specs.Str.Parse.{digits_value}
 use Rattle.std.proofs.lemmas.Bool.Decides.{nat_tests}
 use Rattle.std.proofs.lemmas.Bool.{le-ltb, lt-ltb, true≢false}
+use Rattle.list_lemmas.proofs.Options.{cond_of_none, cond_of_some}
 use Rattle.decimal_digits.specs.Held.{Holds}
 use Rattle.paje_lex.specs.declared.dates.Mantissa.{Mantissa}
 use Rattle.paje_lex.specs.declared.date_fault.DateFault.{DateFault}
@@ -23,15 +24,11 @@ use Rattle.paje_lex.specs.DateReading.{IsRead, unsigned_of, parts_of, date_of, m
 abbrev pub exponent_number : List ℕ → Option ℕ
 exponent_number bs = cond (are_exponent_digits bs) (Some (digits_value 10 bs)) None
 
-signed_cases : (b : Bool) (n size : ℕ) → Some size ≡ cond b (Some n) None → (b ≡ true) × (n ≡ size)
-signed_cases true n size e = (refl, cc)
-signed_cases false n size e = cc
-
 pub signed_some : (bs : List ℕ) (size : ℕ) → Some size ≡ exponent_number (drop (sign_len bs) bs)
     → option_map (λ e. tens_of (Some e)) (exponent_behind 101 bs) ≡ Some
     (cond (is_minus (take (sign_len bs) bs)) 0 size, cond (is_minus (take (sign_len bs) bs)) size 0)
 signed_some bs size e =
-    let both = signed_cases (are_exponent_digits (drop (sign_len bs) bs))
+    let both = cond_of_some (are_exponent_digits (drop (sign_len bs) bs))
     (digits_value 10 (drop (sign_len bs) bs)) size e in
     rw both.0
     (ap (λ n. Some (
@@ -39,13 +36,9 @@ signed_some bs size e =
       cond (is_minus (take (sign_len bs) bs)) n 0,
     )) both.1)
 
-none_cases : (b : Bool) (n : ℕ) → None ≡ cond b (Some n) None → b ≡ false
-none_cases true n e = cc
-none_cases false n e = refl
-
 pub signed_none : (bs : List ℕ) → None ≡ exponent_number (drop (sign_len bs) bs)
     → option_map (λ e. tens_of (Some e)) (exponent_behind 101 bs) ≡ None
-signed_none bs e = rw (none_cases (are_exponent_digits (drop (sign_len bs) bs))
+signed_none bs e = rw (cond_of_none (are_exponent_digits (drop (sign_len bs) bs))
     (digits_value 10 (drop (sign_len bs) bs)) e) refl
 
 pub exponent_empty : (bs : List ℕ) → length bs ≡ 0 → option_map tens_of (exponent_of bs) ≡ Some (0, 0)

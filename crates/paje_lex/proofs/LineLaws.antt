@@ -7,6 +7,7 @@ use Rattle.std.specs.Str.{IsUtf8, is_utf8}
 use Rattle.std.specs.Str.Lossy.{utf8_valid_len}
 use Rattle.std.proofs.lemmas.Str.{IsUtf8-from_is_utf8, is_utf8-from_IsUtf8}
 use Rattle.std.proofs.lemmas.Bool.{true≢false, eqb-true}
+use Rattle.list_lemmas.proofs.Fronts.{shorter_behind}
 use Rattle.paje_lex.specs.declared.token.Token.{Token}
 use Rattle.paje_lex.specs.declared.lex_fault.LexFault.{LexFault}
 use Rattle.paje_lex.specs.declared.lex_fault.LexFault.TheVariants.{NotText, OpenQuote, Memory}
@@ -263,10 +264,6 @@ plain_cut word b bytes is ends (inr (ps, rest, open')) = inr (
 moved : (a b : List ℕ) → a ≡ b → Cut b → Cut a
 moved a b e cut = let P : List ℕ → Type 0 = λ x. Cut x in subst P (sym e) cut
 
-shorter : (front behind bytes : List ℕ) (b n : ℕ) → bytes ≡ front ++ b ∷ behind → length bytes ≤ n
-    → length behind ≤ n
-shorter front behind bytes b n e small = let l = ap length e in omega (arith, simp length-append at l)
-
 quote_cut : (n : ℕ) (bs : List ℕ) → length bs ≤ n → ((bytes : List ℕ) → length bytes ≤ n → Cut bytes)
     → (s : Split (λ b. b == 34) bs) → (behind : List ℕ) → s.behind ≡ behind → Passes (λ b. b == 34) behind
     → Cut (34 ∷ bs)
@@ -286,7 +283,7 @@ quote_cut n bs small rec s (b ∷ behind) e passes =
     moved (34 ∷ bs) (piece_text (quoted s.front) ++ behind)
     (ap (λ x. 34 ∷ x) (text ∙ sym (append_assoc s.front (34 ∷ []) behind)))
     (before_cut (quoted s.front) behind s.fails (λ ps. tt)
-    (rec behind (shorter s.front behind bs 34 n text small)))
+    (rec behind (shorter_behind s.front behind bs 34 n text small)))
 
 word_cut : (n c : ℕ) (bs : List ℕ) → length bs ≤ n → is_blank c ≡ false → (c == 34) ≡ false
     → ((bytes : List ℕ) → length bytes ≤ n → Cut bytes) → (s : Split is_blank bs) → (behind : List ℕ)
@@ -302,7 +299,7 @@ word_cut n c bs small word other rec s (b ∷ behind) e passes =
     let text : bs ≡ s.front ++ b ∷ behind = s.text ∙ ap (λ x. s.front ++ x) e in
     moved (c ∷ bs) ((c ∷ s.front) ++ b ∷ behind) (ap (λ x. c ∷ x) text)
     (plain_cut (c ∷ s.front) b behind (other, (word, s.fails)) passes
-    (rec behind (shorter s.front behind bs b n text small)))
+    (rec behind (shorter_behind s.front behind bs b n text small)))
 
 cut_first : (n b : ℕ) (bs : List ℕ) → length bs ≤ n → ((bytes : List ℕ) → length bytes ≤ n → Cut bytes)
     → (x : Bool) → is_blank b ≡ x → (q : Bool) → (b == 34) ≡ q → Cut (b ∷ bs)

@@ -1,10 +1,9 @@
 -- What one step over the front of what is left of a line leaves to be read.
 use Rattle.std.proofs.Common.{◌≡◌, ℕ, ◌+◌, ◌-◌, ◌<◌, ◌==◌, List, [], ◌∷◌, length, take, drop}
 use Rattle.std.proofs.Common.{true, false, Result, Ok, Err, sym, ◌∙◌, ap, refl, arith}
-use Rattle.std.proofs.Common.{zero, suc, get_or, add-zero, add-one, subst}
+use Rattle.std.proofs.Common.{zero, suc, get_or, add-zero, subst}
 use Rattle.std.specs.Result.{IsErrAnd}
 use Rattle.std.specs.Str.{IsUtf8}
-use Rattle.std.proofs.Math.Seq.{drop-cons}
 use Rattle.std.proofs.lemmas.List.{drop-drop}
 use Rattle.std.proofs.lemmas.Bool.{false_from_ne_true}
 use Rattle.memchr.specs.Find.{NoneBefore, Nowhere, Passes, is_byte}
@@ -18,12 +17,6 @@ use Rattle.paje_lex.specs.LineReading.{scan, joined, lexed}
 use Rattle.paje_lex.proofs.DateLemmas.{slice_behind}
 use Rattle.paje_lex.proofs.LineLemmas.{lexed_text, told_of}
 use Rattle.paje_lex.proofs.LineLaws.{joined_nothing, scan_open}
-
--- the byte at a place, and those behind it
-pub byte_first : (line : List ℕ) (at : ℕ) → at < length line → drop at line ≡ get_or line at 0
-    ∷ drop (at + 1) line
-byte_first line at some = drop-cons line at 0 some ∙ ap (λ n. get_or line at 0 ∷ drop n line)
-    (sym (add-one at))
 
 -- ---- a token in quotes is open
 

@@ -2,22 +2,16 @@
 use Rattle.std.proofs.Common.{◌≡◌, ℕ, ◌+◌, ◌-◌, ◌*◌, ◌/◌, ◌^◌, ◌<◌, ◌≤◌, ◌⊎◌, inl, inr}
 use Rattle.std.proofs.Common.{Result, Ok, Err, IfOk, IfErr, Bool, true, false, IsTrue}
 use Rattle.std.proofs.Common.{◌↔◌, refl, sym, ◌∙◌, ap, arith, zero, suc}
-use Rattle.std.proofs.lemmas.Nat.{pow-add, div-mul-add, div-add-mod'}
+use Rattle.std.proofs.lemmas.Nat.{pow-add, div-add-mod'}
 use Rattle.std.proofs.Math.Nat.{mul-le-mul_right, mul-le-mul_left, lt-div-mul-add}
 use Rattle.std.proofs.Math.Nat.{pow-le-pow_right}
 use Rattle.std.proofs.lemmas.Bool.{le-ltb, lt-ltb, true≢false}
+use Rattle.list_lemmas.proofs.Digits.{ten_pow_pos}
+use Rattle.list_lemmas.proofs.Numbers.{quotient}
 use Rattle.paje_lex.specs.declared.date_fault.DateFault.{DateFault}
 use Rattle.paje_lex.specs.declared.date_fault.DateFault.TheVariants.{Big}
 use Rattle.trace_base.specs.declared.limits.TheConstants.{MAX_TIME}
-use Rattle.decimal_digits.proofs.HeldDigits.{ten_pow_pos}
 use Rattle.paje_lex.specs.DateGrammar.{whole_nanoseconds}
-
--- a quotient is the number whose multiples of the divisor are on both sides
-pub quotient : (a b q : ℕ) → q * b ≤ a → a < (q + 1) * b → a / b ≡ q
-quotient a b q low high =
-    let e : a ≡ q * b + (a - q * b) = omega arith in
-    let small : a - q * b < b = omega arith in
-    ap (λ x. x / b) e ∙ div-mul-add q b (a - q * b) small
 
 pub within : (above below q : ℕ) → q * below ≤ above → above < (q + 1) * below → above ≤ MAX_TIME * below
     → whole_nanoseconds above below ≡ Ok q

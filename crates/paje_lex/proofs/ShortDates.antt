@@ -4,20 +4,19 @@ use Rattle.std.proofs.Common.{Some, None, Ok, inl, inr, refl, sym, ◌∙◌, ap
 use Rattle.std.proofs.Common.{Option, MatchOption, IfSome, length-append, length-take, append_assoc, add-one}
 use Rattle.std.proofs.Common.{true}
 use Rattle.std.specs.List.{prefix_len}
-use Rattle.std.specs.Char.{digit_value, is_ascii_digit}
+use Rattle.std.specs.Char.{is_ascii_digit}
 use Rattle.std.specs.Str.Parse.{digits_value}
 use Rattle.std.proofs.Math.Nat.{mul-le-mul_right, mul-le-mul_left, pow-le-pow_right, eq-or-lt_of_le}
 use Rattle.std.proofs.Math.Seq.{take-suc}
-use Rattle.std.proofs.lemmas.Bool.Decides.{nat_tests}
 use Rattle.std.proofs.lemmas.Int.Digits.{digits_value_push}
 use Rattle.std.proofs.lemmas.Nat.{pow-add}
 use Rattle.std.proofs.lemmas.List.{take_all, take-append-drop}
+use Rattle.std.proofs.lemmas.List.{drop_more}
+use Rattle.list_lemmas.proofs.Digits.{ten_pow_pos, value_of_digit}
 use Rattle.trace_base.specs.declared.limits.TheConstants.{MAX_TIME}
-use Rattle.decimal_digits.proofs.HeldDigits.{ten_pow_pos}
 use Rattle.paje_lex.specs.DateGrammar.{Date, IsDate, AreDigits, date_text, whole_nanoseconds}
 use Rattle.paje_lex.specs.DateReading.{date_of}
 use Rattle.paje_lex.proofs.DateLaws.{date_only, digits_append, digits_front}
-use Rattle.paje_lex.proofs.LineSteps.{byte_first}
 use Rattle.paje_lex.proofs.Scaling.{within}
 
 -- a number of seconds with up to nine places is a whole number of nanoseconds
@@ -74,7 +73,7 @@ short_is text fraction count places n time cut front some short point behind all
     let whole : List ℕ = take count text in
     let len : places ≡ length fraction = omega arith in
     let parts : text ≡ whole ++ 46 ∷ fraction = sym (take-append-drop count text)
-    ∙ ap (λ x. whole ++ x) (byte_first text count short
+    ∙ ap (λ x. whole ++ x) (drop_more text count 0 short
     ∙ (ap (λ b. b ∷ drop (count + 1) text) point ∙ ap (λ x. 46 ∷ x) (sym cut))) in
     let full : take places fraction ≡ fraction = take_all places fraction all in
     let Digits : List ℕ → Type 0 = λ x. AreDigits x in
@@ -95,13 +94,6 @@ short_told None text n told all = tt
 short_told (Some time) text n told all = all time told.0 told.1
 
 -- ---- digits behind a number
-
-value_of_digit : (byte : ℕ) → is_ascii_digit byte ≡ true → digit_value byte ≡ byte - 48
-value_of_digit byte is = grind (arith, nat_tests, is)
-
--- a digit's number is below 10
-pub small_digit : (byte : ℕ) → is_ascii_digit byte ≡ true → byte - 48 < 10
-small_digit byte is = grind (arith, nat_tests, is)
 
 pub digit_behind : (digits text : List ℕ) (at number digit : ℕ) → at < length text
     → is_ascii_digit (get_or text at 0) ≡ true → digit ≡ get_or text at 0 - 48

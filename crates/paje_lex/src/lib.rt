@@ -19,6 +19,3 @@ pub use lex_fault::LexFault;
 pub use line::{tokens, tokens_into};
 pub use line_kinds::{is_definition, is_skipped};
 pub use token::Token;
-
-#[cfg(test)]
-mod tests;

@@ -1,1 +1,12 @@
+pub mod Containers
 pub mod DifferentTexts
+pub mod DistinctItems
+pub mod Functions
+pub mod LinkEvents
+pub mod MoreStates
+pub mod NoReason
+pub mod NotDestroyed
+pub mod StateEvents
+pub mod StateTypes
+pub mod StreamCalls
+pub mod Tracks

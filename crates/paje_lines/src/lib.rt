@@ -20,6 +20,3 @@ pub use reason_examples::{
 };
 pub use type_sort::TypeSort;
 pub use what::What;
-
-#[cfg(test)]
-mod tests;

@@ -4,15 +4,16 @@ use Rattle.std.proofs.Common.{Option, Some, None, IfSome, refl, ◌∙◌, ap, a
 use Rattle.std.specs.Option.{option_map_or, option_or}
 use Rattle.std.proofs.lemmas.Bool.{and_right, ne_eqb}
 use Rattle.std.proofs.lemmas.Option.{IfSome_then}
+use Rattle.list_lemmas.proofs.Fronts.{each_front}
+use Rattle.list_lemmas.proofs.Options.{or_None}
+use Rattle.list_lemmas.proofs.Positions.{slice_get-last}
 use Rattle.paje_defs.specs.declared.role.Role.TheVariants as roles
 use Rattle.paje_lines.specs.EventLine.{EventLine, creates, destroys, text_of}
 use Rattle.paje_lines.specs.Containers.{container_named, container_start, containers_in, created_by}
 use Rattle.paje_lines.specs.Containers.{destruction}
 use Rattle.paje_lines.specs.Containers.{ends_container}
-use Rattle.paje_legal.proofs.Containers.{containers-more, containers_kept, destruction-more}
-use Rattle.paje_model.proofs.AtPlaces.{slice_get-last}
+use Rattle.paje_lines.proofs.Containers.{containers-more, containers_kept, destruction-more}
 use Rattle.paje_model.proofs.FoundPlaces.{container-within}
-use Rattle.paje_model.proofs.LineByLine.{line_by_line}
 
 abbrev pub count : List EventLine → ℕ
 count lines = length (containers_in lines)
@@ -33,16 +34,12 @@ start-created lines line is =
 
 -- ---- where a container is destroyed
 
-or_none : {X : Type 0} (o : Option X) → option_or o None ≡ o
-or_none None = refl
-or_none (Some x) = refl
-
 -- not on a line that destroys another
 pub destruction-stays : (lines : List EventLine) (line : EventLine) (c : ℕ)
     → ends_container c (record { before = lines; line = line }) ≡ false
     → destruction (lines ++ line ∷ []) c ≡ destruction lines c
 destruction-stays lines line c is = destruction-more lines line c
-    ∙ (ap (λ b. option_or (destruction lines c) (cond b (Some line) None)) is ∙ or_none (destruction lines c))
+    ∙ (ap (λ b. option_or (destruction lines c) (cond b (Some line) None)) is ∙ or_None (destruction lines c))
 
 -- but on this line, where it stood before
 pub destruction-now : (lines : List EventLine) (line : EventLine) (c : ℕ)
@@ -65,10 +62,10 @@ ends_other lines line c apart = and_right (destroys line.event) _
 
 -- what isn't there yet isn't destroyed
 pub not_destroyed : (lines : List EventLine) (c : ℕ) → count lines ≤ c → destruction lines c ≡ None
-not_destroyed lines = line_by_line (λ lines. (c : ℕ) → count lines ≤ c → destruction lines c ≡ None)
-    (λ c past. refl)
-    (λ before line none c past.
+not_destroyed lines = each_front (λ lines. (c : ℕ) → count lines ≤ c
+    → destruction lines c ≡ None) (λ before line none c past.
     let there : count before ≤ c = omega (arith, containers_kept before line) in
     destruction-stays before line c (ends_other before line c
     (IfSome_then (container_named before (text_of line roles.Name))
-    (container-within before (text_of line roles.Name)) (λ d within q. omega arith))) ∙ none c there) lines
+    (container-within before (text_of line roles.Name)) (λ d within q. omega arith)))
+    ∙ none c there) (λ c past. refl) lines

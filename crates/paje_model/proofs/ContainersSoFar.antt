@@ -1,12 +1,14 @@
 -- A table of containers stands for one line more.
-use Rattle.std.proofs.Common.{◌≡◌, ℕ, zero, suc, ◌+◌, ◌≤◌, true, false, List, [], ◌∷◌, ◌++◌, length, map, set}
-use Rattle.std.proofs.Common.{slice_get, position, Some, None, is_some, sym, ◌∙◌, ap, subst, refl}
+use Rattle.std.proofs.Common.{◌≡◌, ℕ, ◌≤◌, true, false, List, [], ◌∷◌, ◌++◌, length, map, set}
+use Rattle.std.proofs.Common.{slice_get, position, Some, None, is_some, sym, ◌∙◌, ap, subst}
 use Rattle.std.proofs.Common.{arith}
 use Rattle.std.specs.List.{enumerate_from}
 use Rattle.std.specs.Option.{option_map}
 use Rattle.std.proofs.lemmas.List.{append-nil, length-map, map-append, set-set}
 use Rattle.std.proofs.lemmas.List.FromFn.{length-enumerate_from}
-use Rattle.std.proofs.lemmas.Option.{none-some}
+use Rattle.list_lemmas.proofs.Found.{any-place}
+use Rattle.list_lemmas.proofs.Maps.{enumerate-get}
+use Rattle.list_lemmas.proofs.Positions.{slice_get-set}
 use Rattle.trace_base.specs.declared.names.Track.{Track}
 use Rattle.paje_defs.specs.declared.event_name.EventName.TheVariants.{CreateContainer, DestroyContainer}
 use Rattle.paje_defs.specs.declared.role.Role.TheVariants as roles
@@ -23,18 +25,11 @@ use Rattle.paje_model.specs.EntityTable.{IsNamed, entities_in}
 use Rattle.paje_model.specs.Existing.{AreContainers, existing_at, existing_in}
 use Rattle.paje_model.proofs.ContainersMore.{containers-created, count}
 use Rattle.paje_model.proofs.KeptFacts.{containers-kept}
-use Rattle.paje_model.proofs.Different.{any-place}
 use Rattle.paje_model.proofs.ExistingMore.{existing-created, existing-destroyed, existing-touched}
 use Rattle.paje_model.proofs.ExistingMore.{no_declaration}
 use Rattle.paje_model.proofs.ExistingMore.{with_new_track}
 
 -- ---- the container at a place
-
-enumerate-get : {X Y : Type 0} (f : ℕ × X → Y) (n : ℕ) (xs : List X) (i at : ℕ) → n + i ≡ at
-    → slice_get (map f (enumerate_from n xs)) i ≡ option_map (λ x. f (at, x)) (slice_get xs i)
-enumerate-get f n [] i at e = refl
-enumerate-get f n (x ∷ xs) zero at e = ap (λ j. Some (f (j, x))) (omega arith)
-enumerate-get f n (x ∷ xs) (suc i) at e = enumerate-get f (n + 1) xs i at (omega arith)
 
 pub existing-get : (lines : List EventLine) (c : ℕ)
     → slice_get (existing_in lines) c ≡ option_map (λ d. existing_at lines (c, d))
@@ -86,12 +81,6 @@ containers_destroyed lines line old new c e are is named none at changes =
 
 -- ---- a state event
 
-get-set : {X : Type 0} (xs : List X) (i : ℕ) (x y : X) → slice_get xs i ≡ Some x
-    → slice_get (set xs i y) i ≡ Some y
-get-set [] i x y at = absurd (none-some x at)
-get-set (x ∷ xs) zero z y at = refl
-get-set (x ∷ xs) (suc i) z y at = get-set xs i z y at
-
 -- one change and then another
 pub changes_both : (old mid new : ContainerTable) (c : ℕ) (to more : Existing → Existing)
     → ChangesContainer old mid c to → ChangesContainer mid new c more
@@ -99,7 +88,8 @@ pub changes_both : (old mid new : ContainerTable) (c : ℕ) (to more : Existing 
 changes_both old mid new c to more first then = record {
   entities = then.entities ∙ first.entities;
   list = λ e at.
-      then.list (to e) (ap (λ es. slice_get es c) (first.list e at) ∙ get-set old.list.items c e (to e) at)
+      then.list (to e) (ap (λ es. slice_get es c) (first.list e at)
+      ∙ slice_get-set old.list.items c e (to e) at)
       ∙ (ap (λ es. set es c (more (to e))) (first.list e at) ∙ set-set old.list.items c (to e) (more (to e)));
 }
 

@@ -1,7 +1,7 @@
 -- What a table of entities finds, by the entries of its maps.
 use Rattle.std.proofs.Common.{◌≡◌, ℕ, suc, Bool, true, false, cond, List, [], ◌∷◌, ◌++◌, length, refl, sym}
 use Rattle.std.proofs.Common.{ap}
-use Rattle.std.proofs.Common.{◌∙◌, subst, map, position, Option, Some, None, is_some, true≢false}
+use Rattle.std.proofs.Common.{◌∙◌, subst, map, position, Option, Some, None, is_some}
 use Rattle.std.specs.Prelude.{Vec}
 use Rattle.std.specs.List.{find}
 use Rattle.std.specs.Map.{lookup, keys_of}
@@ -12,10 +12,12 @@ use Rattle.std.proofs.lemmas.List.{map-append}
 use Rattle.std.proofs.lemmas.Option.{none-some}
 use Rattle.indexmap.specs.IndexMap.{insert_entry}
 use Rattle.indexmap.proofs.MapLemmas.{absent_from_lookup, insert_entry-absent, some_index}
+use Rattle.list_lemmas.proofs.Found.{lookup-push}
+use Rattle.list_lemmas.proofs.Options.{is_None, or_None}
+use Rattle.list_lemmas.proofs.Places.{position-map, position-push}
 use Rattle.paje_model.specs.declared.entity_table.Declaration.{Declaration}
 use Rattle.paje_model.specs.EntityTable.{entity_at}
 use Rattle.paje_lines.specs.Found.{Entity, has_alias, has_name}
-use Rattle.paje_model.proofs.Places.{lookup-push, position-map, position-push}
 
 -- a text that stands for a key, and the comparison of keys
 abbrev stands_for : {A : Type 0} → List ℕ → Vec ℕ A → Bool
@@ -87,10 +89,6 @@ noted_new name es new k place is none into text =
     ∙ (lookup-push (stands_for text) es k place
     ∙ ap (λ q. option_or (lookup (stands_for text) es) (cond (bytes_eq text q) (Some place) None)) is)
 
-or_none : {X : Type 0} (o : Option X) → o ≡ option_or o None
-or_none None = refl
-or_none (Some x) = refl
-
 pub noted_old : {A : Type 0} (name : List ℕ) (es : List (Vec ℕ A × ℕ)) (first place : ℕ)
     → Some first ≡ lookup (λ k. bytes_eq name k.items) es → (text : List ℕ)
     → lookup (λ k. bytes_eq text k.items) es
@@ -101,7 +99,7 @@ noted_old name es first place there text = by (bytes_eq text name) refl
         ≡ option_or (lookup (stands_for text) es) (cond b (Some place) None)
     by true e = subst (λ o. o ≡ option_or o (Some place)) (there ∙ ap (λ q. lookup (stands_for q) es)
         (sym ((bytes_decides text name).0 e))) refl
-    by false e = or_none (lookup (stands_for text) es)
+    by false e = (sym (or_None (lookup (stands_for text) es)))
 
 -- ---- names after one more
 
@@ -120,14 +118,10 @@ pub text-place : {A X : Type 0} (text : List ℕ) (es : List (Vec ℕ A × X))
     (keys_of es))
 text-place text es = sym (position-map (bytes_eq text) (λ k. k.items) (keys_of es))
 
-none_by : {X : Type 0} (o : Option X) → is_some o ≡ false → o ≡ None
-none_by None e = refl
-none_by (Some x) e = absurd (true≢false e)
-
 -- what a look-up by place doesn't find isn't there
 pub missed : {K X : Type 0} (t : K → Bool) (es : List (K × X)) → position t (keys_of es) ≡ None
     → lookup t es ≡ None
-missed t es none = none_by (lookup t es) (sym (some_index t es) ∙ ap is_some none)
+missed t es none = is_None (lookup t es) (sym (some_index t es) ∙ ap is_some none)
 
 pub texts-more : {A X : Type 0} (text : List ℕ) (es new : List (Vec ℕ A × X)) (k : Vec ℕ A) (x : X)
     → k.items ≡ text → position (bytes_eq text) (map (λ k. k.items) (keys_of es)) ≡ None

@@ -16,8 +16,9 @@ use Rattle.paje_lines.specs.Effects.{effect, effect_of}
 use Rattle.paje_lines.specs.Reasons.{back_reason, destroy_reason, destroyed_reason}
 use Rattle.paje_lines.specs.Reasons.{destruction_reason, reason_of}
 use Rattle.paje_lines.specs.States.{latest, open_in}
-use Rattle.paje_legal.proofs.Containers.{named_exists}
-use Rattle.paje_legal.proofs.NoReason.{each_none}
+use Rattle.paje_lines.proofs.Containers.{named_exists}
+use Rattle.paje_lines.proofs.NoReason.{each_none}
+use Rattle.paje_lines.proofs.NotDestroyed.{not_destroyed}
 use Rattle.paje_model.specs.declared.container_table.ContainerTable.{ContainerTable}
 use Rattle.paje_model.specs.declared.container_table.Destruction.{Destruction}
 use Rattle.paje_model.specs.declared.container_table.Existing.{Existing}
@@ -85,14 +86,10 @@ reason_is lines line t place e time why are at is named stay =
     ap (option_and_then (destruction_reason lines line)) named
     ∙ (sym (stays lines line t place e time are at is) ∙ stay)
 
-not_yet : (o : Option EventLine) → destroyed_reason o ≡ None → o ≡ None
-not_yet None e = refl
-not_yet (Some line) e = absurd (none-some (AfterDestroy line.number) (sym e))
-
 still_there : (lines : List EventLine) (line : EventLine) (place : ℕ)
     → destruction_reason lines line place ≡ None
     → destruction lines place ≡ None
-still_there lines line place none = not_yet (destruction lines place)
+still_there lines line place none = not_destroyed (destruction lines place)
     (each_none (when (place == 0) (WrongKind roles.Name) ∷ destroyed_reason (destruction lines place)
     ∷ back_reason line.time (latest lines place) ∷ []) none).1.0
 

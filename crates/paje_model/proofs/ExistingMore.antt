@@ -1,15 +1,19 @@
 -- The containers that a list of lines leaves, after one more line: one that creates a container, one that
 -- destroys it, and a state event on one of its tracks.
-use Rattle.std.proofs.Common.{◌≡◌, ◌⊎◌, inl, inr, ℕ, ◌<◌, ◌≤◌, max, Bool, true, false, cond, List, [], ◌∷◌}
+use Rattle.std.proofs.Common.{◌≡◌, inl, inr, ℕ, ◌<◌, ◌≤◌, max, Bool, true, false, cond, List, [], ◌∷◌}
 use Rattle.std.proofs.Common.{◌++◌, length, map, filter, fold, set, slice_get, Option, Some, None, IfSome}
 use Rattle.std.proofs.Common.{refl, sym}
-use Rattle.std.proofs.Common.{◌∙◌, ap, subst, arith, ◌&&◌, ◌||◌, ◌==◌, All}
+use Rattle.std.proofs.Common.{◌∙◌, ap, subst, arith, ◌&&◌, ◌==◌, All}
 use Rattle.std.specs.List.{enumerate_from, list_any}
 use Rattle.std.specs.Option.{option_map, option_map_or}
-use Rattle.std.proofs.lemmas.Bool.{both_ways, eq-eqb, eqb-true, ne_eqb, true≢false}
+use Rattle.std.proofs.lemmas.Bool.{eq-eqb, eqb-true, ne_eqb, true≢false}
 use Rattle.std.proofs.lemmas.List.{append-nil, map-append}
-use Rattle.std.proofs.lemmas.List.Elements.{All-head, All-tail, All-weaker, filter-append}
+use Rattle.std.proofs.lemmas.List.Elements.{All-weaker, filter-append}
 use Rattle.std.proofs.lemmas.List.Sums.{fold_push}
+use Rattle.list_lemmas.proofs.Filters.{filter_All-none, map-filter_agree}
+use Rattle.list_lemmas.proofs.Maps.{enumerate-kept, enumerate-push, enumerate-set}
+use Rattle.list_lemmas.proofs.Places.{places_where, places_where-none, places_where-push}
+use Rattle.list_lemmas.proofs.Sums.{RisesTo, greatest_reaches, greatest_rises}
 use Rattle.trace_base.specs.declared.names.Track.{Track}
 use Rattle.paje_defs.specs.declared.event_name.EventName.{EventName}
 use Rattle.paje_defs.specs.declared.event_name.EventName.TheVariants.{CreateContainer, DestroyContainer}
@@ -23,75 +27,14 @@ use Rattle.paje_lines.specs.States.{tracks_in}
 use Rattle.paje_model.specs.declared.container_table.Existing.{Existing}
 use Rattle.paje_model.specs.ContainerTable.{created, destroyed_by, touched_at}
 use Rattle.paje_model.specs.Existing.{existing_at, existing_in, track_places}
-use Rattle.paje_model.proofs.AtPlaces.{enumerate-kept, enumerate-push, enumerate-set, places_where-none}
-use Rattle.paje_model.proofs.AtPlaces.{places_where, places_where-push}
-use Rattle.paje_legal.proofs.Containers.{start-more}
-use Rattle.paje_legal.proofs.Lists.{greatest_from}
-use Rattle.paje_legal.proofs.Tracks.{tells_track, track_exists}
+use Rattle.paje_lines.proofs.Containers.{start-more}
+use Rattle.paje_lines.proofs.Tracks.{tells_track, track_exists}
 use Rattle.paje_model.proofs.ContainersMore.{containers-created, count, destruction-now, destruction-stays}
 use Rattle.paje_model.proofs.ContainersMore.{ends_other, not_destroyed, start-created}
 use Rattle.paje_model.proofs.FoundPlaces.{container-within, tracks-within}
 use Rattle.paje_model.proofs.KeptFacts.{containers-kept}
 use Rattle.paje_model.proofs.TracksMore.{at_end, last_time-off, last_time-on, other_track, tracks-next}
 use Rattle.paje_model.proofs.TracksMore.{tracks-stay}
-
--- ---- the greatest of some items
-
-map-where : {X Y : Type 0} (p : X → Bool) (f g : X → Y) → ((x : X) → p x ≡ true → g x ≡ f x) → (xs : List X)
-    → map g (filter p xs) ≡ map f (filter p xs)
-map-where p f g same [] = refl
-map-where p f g same (x ∷ xs) = by (p x) (same x) (map-where p f g same xs)
-  where
-    by : (b : Bool) → (b ≡ true → g x ≡ f x) → map g (filter p xs) ≡ map f (filter p xs)
-        → map g (cond b (x ∷ filter p xs) (filter p xs)) ≡ map f (cond b (x ∷ filter p xs) (filter p xs))
-    by true is rest = ap (λ y. y ∷ map g (filter p xs)) (is refl) ∙ ap (λ ys. f x ∷ ys) rest
-    by false is rest = rest
-
-filter_none : {X : Type 0} (p : X → Bool) (xs : List X) → All (λ x. p x ≡ false) xs → filter p xs ≡ []
-filter_none p [] fail = refl
-filter_none p (x ∷ xs) fail = ap (λ b. cond b (x ∷ filter p xs) (filter p xs))
-    (All-head (λ x. p x ≡ false) x xs fail) ∙ filter_none p xs (All-tail (λ x. p x ≡ false) x xs fail)
-
--- some items rise to a time
-abbrev RisesTo : {X : Type 0} → ℕ → (X → ℕ) → (X → ℕ) → X → Type 0
-RisesTo time f g x = (g x ≡ f x) ⊎ ((g x ≡ time) × (f x ≤ time))
-
-greatest-rises : {X : Type 0} (p : X → Bool) (f g : X → ℕ) (time : ℕ)
-    → ((x : X) → p x ≡ true → RisesTo time f g x) → (a b : ℕ) (xs : List X) → max a time ≡ max b time
-    → max (fold max a (map g (filter p xs))) time ≡ max (fold max b (map f (filter p xs))) time
-greatest-rises p f g time rise a b [] same = same
-greatest-rises p f g time rise a b (x ∷ xs) same = by (p x) (rise x)
-    (λ a b same. greatest-rises p f g time rise a b xs same)
-  where
-    step : RisesTo time f g x → max (max a (g x)) time ≡ max (max b (f x)) time
-    step (inl e) = omega arith
-    step (inr (e, below)) = omega arith
-
-    by : (c : Bool) → (c ≡ true → RisesTo time f g x)
-        → ((a b : ℕ) → max a time ≡ max b time
-        → max (fold max a (map g (filter p xs))) time ≡ max (fold max b (map f (filter p xs))) time)
-        → max (fold max a (map g (cond c (x ∷ filter p xs) (filter p xs)))) time
-        ≡ max (fold max b (map f (cond c (x ∷ filter p xs) (filter p xs)))) time
-    by true rises rest = rest (max a (g x)) (max b (f x)) (step (rises refl))
-    by false rises rest = rest a b same
-
--- one of them has it
-greatest-reaches : {X : Type 0} (p q : X → Bool) (g : X → ℕ) (time : ℕ)
-    → ((x : X) → q x ≡ true → (p x ≡ true) × (g x ≡ time)) → (a : ℕ) (xs : List X) → list_any q xs ≡ true
-    → time ≤ fold max a (map g (filter p xs))
-greatest-reaches p q g time has a [] e = absurd (true≢false (sym e))
-greatest-reaches p q g time has a (x ∷ xs) e = by (q x) (p x) refl refl e
-    (λ a e. greatest-reaches p q g time has a xs e)
-  where
-    by : (b c : Bool) → q x ≡ b → p x ≡ c → b || list_any q xs ≡ true
-        → ((a : ℕ) → list_any q xs ≡ true → time ≤ fold max a (map g (filter p xs)))
-        → time ≤ fold max a (map g (cond c (x ∷ filter p xs) (filter p xs)))
-    by true true is passes e later =
-        let here : g x ≡ time = (has x is).1 in
-        omega (arith, greatest_from (max a (g x)) (map g (filter p xs)))
-    by true false is fails e later = absurd (both_ways (p x) fails (has x is).0)
-    by false true is passes e later = later (max a (g x)) e
-    by false false is fails e later = later a e
 
 -- ---- the greatest last time of a container
 
@@ -108,7 +51,7 @@ latest-by lines line c within tracks off =
     (container_tracks (lines ++ line ∷ []) c)))
     (start-more lines line c within)
     ∙ (ap (λ ts. fold max (container_start lines c) (map (last_time (lines ++ line ∷ [])) ts)) tracks
-    ∙ ap (fold max (container_start lines c)) (map-where (of c) (last_time lines)
+    ∙ ap (fold max (container_start lines c)) (map-filter_agree (of c) (last_time lines)
     (last_time (lines ++ line ∷ []))
     (λ t is. let at : t.container ≡ c = eqb-true t.container c is in
     last_time-off lines line t (off t at) (subst (λ n. n < count lines) (sym at) within))
@@ -195,7 +138,7 @@ latest-on lines line t is within below =
 
     risen : max (fold max start (map new (container_tracks lines t.container))) line.time
         ≡ max (latest lines t.container) line.time
-    risen = greatest-rises (of t.container) (last_time lines) new line.time rises start start
+    risen = greatest_rises (of t.container) (last_time lines) new line.time rises start start
         (tracks_in lines)
         refl
 
@@ -204,7 +147,7 @@ latest-on lines line t is within below =
         ≡ max (latest lines t.container) line.time
     by true known =
         let reaches : line.time ≤ fold max start (map new (container_tracks lines t.container)) =
-        greatest-reaches (of t.container) (is_same t) new line.time
+        greatest_reaches (of t.container) (is_same t) new line.time
         (λ s e. let one : t ≡ s = (tells_track t s).0 e in (
           eq-eqb s.container t.container (ap (λ u. u.container) (sym one)),
           last_time-on lines line s (on s true (ap (λ u. is_same u t) (sym one) ∙ (tells_track t t).1 refl)),
@@ -311,7 +254,7 @@ existing-created lines line is =
 
     no_tracks : container_tracks (lines ++ line ∷ []) (count lines) ≡ []
     no_tracks = ap (filter (of (count lines))) (tracks-stay lines line plain)
-        ∙ filter_none (of (count lines)) (tracks_in lines) outside
+        ∙ filter_All-none (of (count lines)) (tracks_in lines) outside
 
     at_start : latest (lines ++ line ∷ []) (count lines) ≡ line.time
     at_start = ap (λ ts. fold max (container_start (lines ++ line ∷ []) (count lines))

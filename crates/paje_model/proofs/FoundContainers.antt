@@ -10,7 +10,7 @@ use Rattle.paje_model.specs.Existing.{AreContainers}
 use Rattle.paje_model.specs.Known.{IsKnown, IsOfLines}
 use Rattle.paje_model.specs.declared.known.Known.{Known}
 use Rattle.paje_model.proofs.FoundPlaces.{container-within}
-use Rattle.paje_legal.proofs.Containers.{containers_within}
+use Rattle.paje_lines.proofs.Containers.{containers_within}
 
 pub container-found : (lines : List EventLine) (t : ContainerTable) (text : List ℕ) → AreContainers lines t
     → entity_place (entities_in t.entities) (rooted text) ≡ container_named lines text

@@ -1,62 +1,37 @@
 -- What a text finds is one of those that are there.
-use Rattle.std.proofs.Common.{◌≡◌, ℕ, zero, suc, ◌+◌, ◌<◌, ◌≤◌, Bool, true, false, cond, List, [], ◌∷◌, ◌++◌}
+use Rattle.std.proofs.Common.{◌≡◌, ℕ, ◌+◌, ◌<◌, ◌≤◌, Bool, true, false, cond, List, [], ◌∷◌, ◌++◌}
 use Rattle.std.proofs.Common.{length}
 use Rattle.std.proofs.Common.{filter, filter_map, position, All, arith, option_to_list, option_and_then}
 use Rattle.std.proofs.Common.{Option, Some, None, IfSome, sym, ap, subst, not, slice_get}
-use Rattle.std.proofs.Common.{length-append}
-use Rattle.std.specs.List.{position_from}
-use Rattle.std.specs.Option.{option_map, option_or, option_zip}
-use Rattle.std.proofs.lemmas.Iterator.Adapters.{position_from-zero}
+use Rattle.std.specs.Option.{option_map, option_zip}
 use Rattle.std.proofs.lemmas.List.{length-map}
 use Rattle.std.proofs.lemmas.List.Elements.{All-append, All-cons, All-filter, All-head, All-nil, All-tail}
 use Rattle.std.proofs.lemmas.List.Elements.{All-weaker}
 use Rattle.std.proofs.lemmas.List.Sums.{sum_by-append}
+use Rattle.list_lemmas.proofs.All.{All-gets, All-option_to_list}
+use Rattle.list_lemmas.proofs.Fronts.{each_front}
+use Rattle.list_lemmas.proofs.Options.{or_both}
+use Rattle.list_lemmas.proofs.Places.{position-within}
 use Rattle.trace_base.specs.declared.names.Track.{Track}
 use Rattle.paje_defs.specs.declared.event_name.EventName.{EventName}
 use Rattle.paje_defs.specs.declared.event_name.EventName.TheVariants as events
 use Rattle.paje_defs.specs.declared.role.Role.TheVariants as roles
 use Rattle.paje_defs.specs.Refusals.{placed}
-use Rattle.paje_lines.specs.EventLine.{EventLine, text_of, creates, is_state_type, is_state_event}
+use Rattle.paje_lines.specs.EventLine.{EventLine, text_of, is_state_type, is_state_event}
 use Rattle.paje_lines.specs.EventLine.{defines_value}
 use Rattle.paje_lines.specs.Found.{Entity, distinct_by, entity_place, has_alias, has_name, rooted}
 use Rattle.paje_lines.specs.Types.{DeclaredType, kind_named, root_type, sort_of, state_number, state_types}
 use Rattle.paje_lines.specs.Types.{type_at, type_entities, types_in, rooted_entity}
-use Rattle.paje_lines.specs.Containers.{containers_in, container_entities, container_named, created_by}
+use Rattle.paje_lines.specs.Containers.{containers_in, container_entities, container_named}
 use Rattle.paje_lines.specs.States.{is_same, track_at, tracks_in}
 use Rattle.paje_lines.specs.Values.{DeclaredValue, entity_of, value_at, values_in}
+use Rattle.paje_lines.proofs.Containers.{containers_kept}
 use Rattle.paje_defs.proofs.PlacedMore.{told-more}
-use Rattle.paje_model.proofs.KeptFacts.{containers-more}
-use Rattle.paje_model.proofs.LineByLine.{line_by_line}
 
 -- ---- places in lists
 
-from-within : {X : Type 0} (p : X → Bool) (i : ℕ) (xs : List X)
-    → IfSome (position_from p i xs) (λ j. j < i + length xs)
-from-within p i [] = tt
-from-within p i (x ∷ xs) = by (p x) (position_from p (i + 1) xs) (from-within p (i + 1) xs)
-  where
-    by : (b : Bool) (later : Option ℕ) → IfSome later (λ j. j < i + 1 + length xs)
-        → IfSome (cond b (Some i) later) (λ j. j < i + length (x ∷ xs))
-    by true later is = omega arith
-    by false None is = tt
-    by false (Some j) is = omega arith
-
-pub position-within : {X : Type 0} (p : X → Bool) (xs : List X)
-    → IfSome (position p xs) (λ j. j < length xs)
-position-within p xs = subst (λ o. IfSome o (λ j. j < length xs)) (sym (position_from-zero p xs))
-    (by (position_from p 0 xs) (from-within p 0 xs))
-  where
-    by : (o : Option ℕ) → IfSome o (λ j. j < 0 + length xs) → IfSome o (λ j. j < length xs)
-    by None is = tt
-    by (Some j) is = omega arith
-
-either-within : (P : ℕ → Type 0) (first later : Option ℕ) → IfSome first P → IfSome later P
-    → IfSome (option_or first later) P
-either-within P None later is other = other
-either-within P (Some i) later is other = is
-
 pub entity-within : (es : List Entity) (text : List ℕ) → IfSome (entity_place es text) (λ j. j < length es)
-entity-within es text = either-within (λ j. j < length es) (position (has_alias text) es)
+entity-within es text = or_both (λ j. j < length es) (position (has_alias text) es)
     (position (has_name text) es)
     (position-within (has_alias text) es) (position-within (has_name text) es)
 
@@ -75,10 +50,6 @@ distinct-all P same (x ∷ xs) all = All-cons P x (filter (λ y. not (same x y))
     (All-head P x xs all) (All-filter (λ y. not (same x y)) P (distinct_by same xs)
     (distinct-all P same xs (All-tail P x xs all)))
 
-told-all : {X : Type 0} (P : X → Type 0) (o : Option X) → IfSome o P → All P (option_to_list o)
-told-all P None is = All-nil P
-told-all P (Some x) is = All-cons P x [] is (All-nil P)
-
 track-within : (n : ℕ) (b : Bool) (kind container : Option ℕ) → IfSome container (λ c. c < n)
     → IfSome (cond b (option_map (λ both. record { container = both.1; kind = both.0 })
     (option_zip kind container)) None) (λ (t : Track). t.container < n)
@@ -93,27 +64,18 @@ Within n t = t.container < n
 abbrev TracksWithin : List EventLine → Type 0
 TracksWithin lines = All (Within (length (containers_in lines))) (filter_map track_at (placed lines))
 
-containers-grow : (lines : List EventLine) (line : EventLine)
-    → length (containers_in lines) ≤ length (containers_in (lines ++ line ∷ []))
-containers-grow lines line = subst (λ cs. length (containers_in lines) ≤ length cs)
-    (sym (containers-more lines line)) (omega (
-      arith,
-      length-append (containers_in lines)
-          (cond (creates line.event) (created_by line ∷ []) []),
-    ))
-
 within-more : (lines : List EventLine) (line : EventLine) → TracksWithin lines
     → TracksWithin (lines ++ line ∷ [])
 within-more lines line all =
     let n = length (containers_in lines) in
     let m = length (containers_in (lines ++ line ∷ [])) in
-    let grows : n ≤ m = containers-grow lines line in
+    let grows : n ≤ m = containers_kept lines line in
     let told = track_at (record { before = lines; line = line }) in
     subst (All (Within m)) (sym (told-more track_at lines line))
     (All-weaker (Within n) (Within m) (λ t is. omega arith)
     (filter_map track_at (placed lines) ++ option_to_list told)
     (All-append (Within n) (filter_map track_at (placed lines)) (option_to_list told) all
-    (told-all (Within n) told (track-within n (is_state_event line.event)
+    (All-option_to_list (Within n) told (track-within n (is_state_event line.event)
     (kind_named lines (text_of line roles.Kind)) (container_named lines (text_of line roles.Holder))
     (container-within lines (text_of line roles.Holder))))))
 
@@ -121,7 +83,7 @@ within-more lines line all =
 pub tracks-within : (lines : List EventLine)
     → All (λ t. t.container < length (containers_in lines)) (tracks_in lines)
 tracks-within lines = distinct-all (Within (length (containers_in lines))) is_same
-    (filter_map track_at (placed lines)) (line_by_line TracksWithin (All-nil (Within 1)) within-more lines)
+    (filter_map track_at (placed lines)) (each_front TracksWithin within-more (All-nil (Within 1)) lines)
 
 -- ---- state types
 
@@ -164,16 +126,11 @@ kinds-more lines line all =
     (subst (All (KindWithin m)) (sym types)
     (All-append (KindWithin m) (types_in lines) (option_to_list told)
     (All-weaker (KindWithin n) (KindWithin m) (kind-grows n m (omega arith)) (types_in lines) all)
-    (told-all (KindWithin m) told (new_kind lines line line.event))))
+    (All-option_to_list (KindWithin m) told (new_kind lines line line.event))))
 
 pub kinds-within : (lines : List EventLine) → KindsWithin lines
-kinds-within lines = line_by_line KindsWithin (All-cons (KindWithin 0) root_type [] tt
-    (All-nil (KindWithin 0))) kinds-more lines
-
-got-all : {X : Type 0} (P : X → Type 0) (xs : List X) (i : ℕ) → All P xs → IfSome (slice_get xs i) P
-got-all P [] i all = tt
-got-all P (x ∷ xs) zero all = All-head P x xs all
-got-all P (x ∷ xs) (suc i) all = got-all P xs i (All-tail P x xs all)
+kinds-within lines = each_front KindsWithin kinds-more (All-cons (KindWithin 0) root_type [] tt
+    (All-nil (KindWithin 0))) lines
 
 -- the number of the state type that a text finds
 pub kind-within : (lines : List EventLine) (text : List ℕ)
@@ -188,7 +145,7 @@ kind-within lines text = by (entity_place (type_entities lines) (rooted text))
     by : (place : Option ℕ) → IfSome (option_and_then (λ t. state_number t.sort)
         (option_and_then (slice_get (types_in lines)) place)) (λ k. k < state_types lines)
     by None = tt
-    by (Some i) = number (slice_get (types_in lines) i) (got-all (KindWithin (state_types lines))
+    by (Some i) = number (slice_get (types_in lines) i) (All-gets (KindWithin (state_types lines))
         (types_in lines) i (kinds-within lines))
 
 -- ---- values
@@ -215,10 +172,11 @@ values-more lines line all =
     (subst (All (ValueWithin m)) (sym (told-more value_at lines line))
     (All-weaker (ValueWithin n) (ValueWithin m) (λ v is. omega arith)
     (values_in lines ++ option_to_list told) (All-append (ValueWithin n) (values_in lines)
-    (option_to_list told) all (told-all (ValueWithin n) told (value-within n (defines_value line.event)
+    (option_to_list told) all (All-option_to_list (ValueWithin n) told (value-within n (defines_value
+    line.event)
     (kind_named lines (text_of line roles.Kind)) (entity_of line)
     (kind-within lines (text_of line roles.Kind)))))))
 
 -- the state type of each value is there
 pub values-within : (lines : List EventLine) → All (λ v. v.kind < state_types lines) (values_in lines)
-values-within lines = line_by_line ValuesWithin (All-nil (ValueWithin 0)) values-more lines
+values-within lines = each_front ValuesWithin values-more (All-nil (ValueWithin 0)) lines

@@ -1,14 +1,16 @@
 -- The functions that are entered, after one more line; their numbers stay.
-use Rattle.std.proofs.Common.{◌≡◌, ℕ, ◌+◌, Bool, true, false, not, cond, ◌||◌, List, [], ◌∷◌, ◌++◌}
+use Rattle.std.proofs.Common.{◌≡◌, ℕ, ◌+◌, Bool, true, false, cond, ◌||◌, List, [], ◌∷◌, ◌++◌}
 use Rattle.std.proofs.Common.{filter, filter_map, length, position, Option, Some, None, IfSome, is_some, refl}
 use Rattle.std.proofs.Common.{sym, ap}
 use Rattle.std.proofs.Common.{◌∙◌, subst}
 use Rattle.std.specs.List.{AllByRecursion, cons_option, flat_map, list_any, position_or_len}
 use Rattle.std.specs.Option.{option_map_or, option_to_list}
 use Rattle.std.specs.Str.{bytes_eq}
-use Rattle.std.proofs.lemmas.Bool.{true≢false}
 use Rattle.std.proofs.lemmas.List.{append-nil, length_push}
 use Rattle.std.proofs.lemmas.Slice.Eq.{bytes_eq-Decides}
+use Rattle.std.proofs.lemmas.Bool.{or_right}
+use Rattle.list_lemmas.proofs.Found.{any-place}
+use Rattle.list_lemmas.proofs.Places.{place_new, place_stays}
 use Rattle.trace_base.specs.declared.names.Track.{Track}
 use Rattle.trace_base.specs.declared.stream.Event.TheVariants.{Enter}
 use Rattle.paje_defs.specs.Refusals.{Placed, placed}
@@ -20,7 +22,7 @@ use Rattle.paje_model.specs.declared.function_place.FunctionPlace.{FunctionPlace
 use Rattle.paje_model.specs.declared.function_place.FunctionPlace.TheVariants.{At, New}
 use Rattle.paje_model.specs.FunctionPlace.{function_place, text_entered}
 use Rattle.paje_defs.proofs.PlacedMore.{told-more}
-use Rattle.paje_model.proofs.Different.{any-distinct, any-place, distinct-next, place-new}
+use Rattle.paje_model.proofs.Different.{any-distinct, distinct-next}
 
 -- ---- the functions, after one more line
 
@@ -44,26 +46,11 @@ functions-more lines line text o is at =
 
 -- ---- their numbers
 
-place-stays : {X : Type 0} (p : X → Bool) (xs ys : List X) → list_any p xs ≡ true
-    → position_or_len p (xs ++ ys) ≡ position_or_len p xs
-place-stays p [] ys there = absurd (true≢false (sym there))
-place-stays p (x ∷ xs) ys there = by (p x) there (place-stays p xs ys)
-  where
-    by : (b : Bool) → (b || list_any p xs) ≡ true
-        → (list_any p xs ≡ true → position_or_len p (xs ++ ys) ≡ position_or_len p xs)
-        → cond (not b) (1 + position_or_len p (xs ++ ys)) 0 ≡ cond (not b) (1 + position_or_len p xs) 0
-    by true there later = refl
-    by false there later = ap (λ n. 1 + n) (later there)
-
 -- the texts that a list of lines enters are among the functions
 abbrev AreAmong : List (List ℕ) → List (Placed EventLine) → Type 0
 AreAmong functions ps = AllByRecursion (λ p. IfSome (entered_text p) (λ text. list_any
     (bytes_eq text) functions
     ≡ true)) ps
-
-or-right : (a b : Bool) → b ≡ true → (a || b) ≡ true
-or-right true b is = refl
-or-right false b is = is
 
 itself : (text : List ℕ) (b : Bool) → (bytes_eq text text || b) ≡ true
 itself text b = ap (λ a. a || b) ((bytes_eq-Decides text text).1 refl)
@@ -88,7 +75,7 @@ are_among functions (p ∷ ps) there = by (entered_text p) refl there (are_among
     by (Some t) is there later = (
       subst (λ o. IfSome o (λ text. list_any (bytes_eq text) functions ≡ true))
           (sym is) (there t (itself t (list_any (bytes_eq t) (filter_map entered_text ps)))),
-      later (λ text e. there text (or-right (bytes_eq text t) _ e)),
+      later (λ text e. there text (or_right (bytes_eq text t) _ e)),
     )
 
 entered-stays : (functions new : List (List ℕ)) (p : Placed EventLine) (o : Option (List ℕ))
@@ -97,7 +84,7 @@ entered-stays : (functions new : List (List ℕ)) (p : Placed EventLine) (o : Op
     ≡ option_map_or (λ text. Enter (function_number functions text) p.line.time ∷ []) o []
 entered-stays functions new p None there = refl
 entered-stays functions new p (Some text) there = ap (λ n. Enter (n + 1) p.line.time ∷ [])
-    (place-stays (bytes_eq text) functions new there)
+    (place_stays (bytes_eq text) functions new there)
 
 events-stay : (functions new : List (List ℕ)) (track : Track) (ps : List (Placed EventLine))
     → AreAmong functions ps
@@ -140,6 +127,6 @@ new_number old new place text is found more =
     let none : position (bytes_eq text) old ≡ None = new_by (position (bytes_eq text) old)
     (subst (λ p. p ≡ function_place old (text_entered p text)) is found) in
     ap length more ∙ (length_push old text
-    ∙ (ap (λ n. n + 1) (sym (ap (position_or_len (bytes_eq text)) more ∙ place-new (bytes_eq text) old text
+    ∙ (ap (λ n. n + 1) (sym (ap (position_or_len (bytes_eq text)) more ∙ place_new (bytes_eq text) old text
     (any-place (bytes_eq text) old ∙ ap is_some none) ((bytes_eq-Decides text text).1 refl)))
     ∙ ap (λ p. option_map_or (function_number new) (text_entered p text) 0) (sym is)))

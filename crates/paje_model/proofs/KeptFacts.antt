@@ -1,15 +1,16 @@
 -- What a line leaves of each fact that it doesn't concern.
-use Rattle.std.proofs.Common.{◌≡◌, ℕ, zero, suc, ◌+◌, ◌==◌, ◌&&◌, ◌<◌, Bool, false, cond, List, [], ◌∷◌, ◌++◌}
+use Rattle.std.proofs.Common.{◌≡◌, ℕ, ◌==◌, ◌&&◌, ◌<◌, false, List, [], ◌∷◌, ◌++◌}
 use Rattle.std.proofs.Common.{length, map}
-use Rattle.std.proofs.Common.{filter, filter_map, find, fold, max, count_by, slice_get, arith}
-use Rattle.std.proofs.Common.{Option, Some, None, refl, sym, ap, ◌∙◌}
+use Rattle.std.proofs.Common.{filter, filter_map, find, fold, max, slice_get}
+use Rattle.std.proofs.Common.{Option, None, refl, sym, ap, ◌∙◌}
 use Rattle.std.specs.List.{last_or, range_with_len, enumerate_from}
-use Rattle.std.specs.Option.{option_map, option_map_or, option_or, option_to_list}
+use Rattle.std.specs.Option.{option_map, option_map_or, option_to_list}
 use Rattle.std.specs.Str.{bytes_eq}
 use Rattle.std.proofs.Math.Path.{fun_ext}
 use Rattle.std.proofs.lemmas.List.{append-nil}
-use Rattle.std.proofs.lemmas.List.Elements.{filter-append}
-use Rattle.std.proofs.lemmas.List.Sums.{sum_by-append}
+use Rattle.list_lemmas.proofs.Filters.{count-kept, filter-failed}
+use Rattle.list_lemmas.proofs.Found.{find_kept}
+use Rattle.list_lemmas.proofs.Options.{cond_unless}
 use Rattle.trace_base.specs.declared.names.Track.{Track}
 use Rattle.paje_defs.specs.declared.event_name.EventName.{EventName}
 use Rattle.paje_defs.specs.declared.event_name.EventName.TheVariants as events
@@ -27,17 +28,15 @@ use Rattle.paje_lines.specs.States.{last_time, latest, open_calls, open_behind, 
 use Rattle.paje_lines.specs.States.{functions_entered, container_tracks}
 use Rattle.paje_lines.specs.Text.{link_at, links_of}
 use Rattle.paje_lines.specs.Reasons.{event_reason, event_reason_at, event_refusal}
+use Rattle.paje_lines.proofs.Containers.{start-more}
 use Rattle.paje_model.specs.declared.container_table.ContainerTable.{ContainerTable}
 use Rattle.paje_model.specs.declared.value_table.ValueTable.{ValueTable}
 use Rattle.paje_model.specs.Existing.{AreContainers, existing_at, track_places}
 use Rattle.paje_model.specs.Known.{AreValues}
-use Rattle.paje_defs.proofs.PlacedMore.{found-more, picked-more, placed-more, told-more}
+use Rattle.paje_defs.proofs.PlacedMore.{found-more, placed-more, told-more}
 use Rattle.paje_defs.proofs.RefusedMore.{refusal-next}
 
 -- ---- lists that a line adds nothing to
-
-none_unless : {X : Type 0} (b : Bool) (o : Option X) → b ≡ false → cond b o None ≡ None
-none_unless b o never = ap (λ b. cond b o None) never
 
 pub told-kept : {Y : Type 0} (f : Placed EventLine → Option Y) (lines : List EventLine) (line : EventLine)
     → f (record { before = lines; line = line }) ≡ None
@@ -46,51 +45,13 @@ told-kept f lines line none = told-more f lines line
     ∙ (ap (λ o. filter_map f (placed lines) ++ option_to_list o) none
     ∙ append-nil (filter_map f (placed lines)))
 
-pub filter-kept : {X : Type 0} (p : X → Bool) (xs : List X) (x : X) → p x ≡ false
-    → filter p (xs ++ x ∷ []) ≡ filter p xs
-filter-kept p xs x never = filter-append p xs (x ∷ []) ∙ (ap (λ b. filter p xs ++ cond b (x ∷ []) []) never
-    ∙ append-nil (filter p xs))
-
-pub count-kept : {X : Type 0} (p : X → Bool) (xs : List X) (x : X) → p x ≡ false
-    → count_by p (xs ++ x ∷ []) ≡ count_by p xs
-count-kept p xs x never =
-    let more : count_by p (xs ++ x ∷ []) ≡ count_by p xs + (0 + cond (p x) 1 0)
-    = sum_by-append (λ x. cond (p x) 1 0) xs (x ∷ []) in
-    more ∙ (ap (λ b. count_by p xs + (0 + cond b 1 0)) never ∙ omega arith)
-
-find_kept : {X : Type 0} (p : X → Bool) (found : Option X) (x : X) → p x ≡ false
-    → option_or found (find p (x ∷ [])) ≡ found
-find_kept p None x never = ap (λ b. cond b (Some x) None) never
-find_kept p (Some y) x never = refl
-
-slice_get-front : {X : Type 0} (xs ys : List X) (i : ℕ) → i < length xs
-    → slice_get (xs ++ ys) i ≡ slice_get xs i
-slice_get-front (x ∷ xs) ys zero within = refl
-slice_get-front (x ∷ xs) ys (suc i) within = slice_get-front xs ys i (omega arith)
-slice_get-front [] ys i within = absurd (omega arith)
-
 -- ---- the containers
 
 -- a line that creates none
 pub containers-kept : (lines : List EventLine) (line : EventLine) → creates line.event ≡ false
     → containers_in (lines ++ line ∷ []) ≡ containers_in lines
 containers-kept lines line never = ap (λ ls. record { entity = root; start = 0 } ∷ map created_by ls)
-    (filter-kept (λ l. creates l.event) lines line never)
-
--- a line that creates one puts it last
-pub containers-more : (lines : List EventLine) (line : EventLine) → containers_in (lines ++ line ∷ [])
-    ≡ containers_in lines ++ cond (creates line.event) (created_by line ∷ []) []
-containers-more lines line = ap (λ cs. record { entity = root; start = 0 } ∷ cs)
-    (picked-more (λ l. creates l.event) created_by lines line)
-
--- those before a line began when they did
-pub start-kept : (lines : List EventLine) (line : EventLine) (container : ℕ)
-    → container < length (containers_in lines)
-    → container_start (lines ++ line ∷ []) container ≡ container_start lines container
-start-kept lines line container within =
-    ap (λ cs. option_map_or (λ c. c.start) (slice_get cs container) 0) (containers-more lines line)
-    ∙ ap (λ o. option_map_or (λ c. c.start) o 0) (slice_get-front (containers_in lines)
-    (cond (creates line.event) (created_by line ∷ []) []) container within)
+    (filter-failed (λ l. creates l.event) lines line never)
 
 -- a line that destroys none
 pub destruction-kept : (lines : List EventLine) (line : EventLine) (container : ℕ)
@@ -105,7 +66,7 @@ destruction-kept lines line container never = ap (option_map (λ p. p.line))
 
 track_untold : (lines : List EventLine) (line : EventLine) → is_state_event line.event ≡ false
     → track_at (record { before = lines; line = line }) ≡ None
-track_untold lines line never = none_unless (is_state_event line.event) (track_named lines line) never
+track_untold lines line never = cond_unless (is_state_event line.event) (track_named lines line) never
 
 -- a line that is no state event
 pub tracks-kept : (lines : List EventLine) (line : EventLine) → is_state_event line.event ≡ false
@@ -117,7 +78,7 @@ pub states-kept : (lines : List EventLine) (line : EventLine) (track : Track)
     → is_state_event line.event ≡ false → states_of (lines ++ line ∷ []) track ≡ states_of lines track
 states-kept lines line track never =
     ap (filter (is_on track)) (placed-more lines line)
-    ∙ filter-kept (is_on track) (placed lines) (record { before = lines; line = line })
+    ∙ filter-failed (is_on track) (placed lines) (record { before = lines; line = line })
     (ap (λ o. option_map_or (is_same track) o false) (track_untold lines line never))
 
 pub open-kept : (lines : List EventLine) (line : EventLine) (track : Track)
@@ -137,7 +98,7 @@ last_time-kept lines line track never within =
     ap (λ ps. option_map_or (λ p. p.line.time) (last_or None ps)
     (container_start (lines ++ line ∷ []) track.container)) (states-kept lines line track never)
     ∙ ap (option_map_or (λ p. p.line.time) (last_or None (states_of lines track)))
-    (start-kept lines line track.container within)
+    (start-more lines line track.container within)
 
 -- also of one whose container wasn't, where the line creates none
 last_time-same : (lines : List EventLine) (line : EventLine) (track : Track)
@@ -193,7 +154,7 @@ AreContainers-kept lines line t are never creates_none destroys_none = record {
 -- a line that defines no value
 pub values-kept : (lines : List EventLine) (line : EventLine) → defines_value line.event ≡ false
     → values_in (lines ++ line ∷ []) ≡ values_in lines
-values-kept lines line never = told-kept value_at lines line (none_unless (defines_value line.event) _ never)
+values-kept lines line never = told-kept value_at lines line (cond_unless (defines_value line.event) _ never)
 
 -- the values, after a line that tells none and declares no state type
 pub AreValues-untold : (lines : List EventLine) (line : EventLine) (t : ValueTable) → AreValues lines t
@@ -215,13 +176,13 @@ pub AreValues-kept : (lines : List EventLine) (line : EventLine) (t : ValueTable
     → defines_value line.event ≡ false → is_state_type line.event ≡ false
     → AreValues (lines ++ line ∷ []) t
 AreValues-kept lines line t are never kind_none = AreValues-untold lines line t are
-    (none_unless (defines_value line.event) _ never) kind_none
+    (cond_unless (defines_value line.event) _ never) kind_none
 
 -- a line that enters no call
 pub functions-kept : (lines : List EventLine) (line : EventLine) → enters line.event ≡ false
     → functions_entered (lines ++ line ∷ []) ≡ functions_entered lines
 functions-kept lines line never = ap (distinct_by bytes_eq) (told-kept entered_text lines line
-    (none_unless (enters line.event) _ never))
+    (cond_unless (enters line.event) _ never))
 
 pub enters_none : (event : EventName) → is_state_event event ≡ false → enters event ≡ false
 enters_none events.PushState never = never
@@ -231,7 +192,7 @@ enters_none _ never = refl
 -- a line that is no end of a message
 pub links-kept : (lines : List EventLine) (line : EventLine) → is_link_event line.event ≡ false
     → links_of (lines ++ line ∷ []) ≡ links_of lines
-links-kept lines line never = told-kept link_at lines line (none_unless (is_link_event line.event) _ never)
+links-kept lines line never = told-kept link_at lines line (cond_unless (is_link_event line.event) _ never)
 
 pub unrefused-kept : (lines : List EventLine) (line : EventLine) → event_refusal lines ≡ None
     → event_reason lines line ≡ None → event_refusal (lines ++ line ∷ []) ≡ None

@@ -1,7 +1,7 @@
 -- A line that is no state event leaves what was made of each track.
-use Rattle.std.proofs.Common.{◌≡◌, ◌<◌, false, List, [], ◌∷◌, ◌++◌, length, map, flat_map, All, sym, refl, ap}
+use Rattle.std.proofs.Common.{◌≡◌, ◌<◌, false, List, [], ◌∷◌, ◌++◌, length, map, flat_map, sym, ap}
 use Rattle.std.proofs.Common.{ap₂, ◌∙◌}
-use Rattle.std.proofs.lemmas.List.Elements.{All-head, All-tail}
+use Rattle.list_lemmas.proofs.Maps.{map_agree_where}
 use Rattle.trace_base.specs.declared.names.Track.{Track}
 use Rattle.paje_lines.specs.EventLine.{EventLine, is_state_event}
 use Rattle.paje_lines.specs.Containers.{containers_in}
@@ -12,12 +12,6 @@ use Rattle.paje_model.specs.MadeTracks.{AreTracks, made_of}
 use Rattle.paje_model.proofs.FoundPlaces.{tracks-within}
 use Rattle.paje_model.proofs.KeptFacts.{enters_none, functions-kept, last_time-kept, open-kept, states-kept}
 use Rattle.paje_model.proofs.KeptFacts.{tracks-kept}
-
-map-agree : {X Y : Type 0} (f g : X → Y) (P : X → Type 0) (xs : List X) → ((x : X) → P x → f x ≡ g x)
-    → All P xs → map f xs ≡ map g xs
-map-agree f g P [] agree all = refl
-map-agree f g P (x ∷ xs) agree all = ap₂ ◌∷◌ (agree x (All-head P x xs all))
-    (map-agree f g P xs agree (All-tail P x xs all))
 
 made-kept : (lines : List EventLine) (line : EventLine) → is_state_event line.event ≡ false
     → (track : Track) → track.container < length (containers_in lines)
@@ -41,7 +35,7 @@ pub AreTracks-kept : (lines : List EventLine) (line : EventLine) (t : TrackTable
     → is_state_event line.event ≡ false → AreTracks (lines ++ line ∷ []) t
 AreTracks-kept lines line t are never = record {
   tracks = are.tracks ∙ sym (tracks-kept lines line never);
-  made = are.made ∙ (map-agree (made_of lines) (made_of (lines ++ line ∷ []))
+  made = are.made ∙ (map_agree_where (made_of lines) (made_of (lines ++ line ∷ []))
       (λ t. t.container < length (containers_in lines)) (tracks_in lines)
       (made-kept lines line never) (tracks-within lines)
       ∙ ap (map (made_of (lines ++ line ∷ []))) (sym (tracks-kept lines line never)));

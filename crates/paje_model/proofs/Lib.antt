@@ -1,4 +1,3 @@
-pub mod AtPlaces
 pub mod ContainersMore
 pub mod ContainersSoFar
 pub mod DeclaredEntities
@@ -13,11 +12,9 @@ pub mod KeptFacts
 pub mod KeptKnown
 pub mod KeptTracks
 pub mod KnownContainers
-pub mod LineByLine
 pub mod LinksSoFar
 pub mod NewTypes
 pub mod NewValues
-pub mod Places
 pub mod StateCalls
 pub mod NewContainers
 pub mod OpenCalls

@@ -5,6 +5,7 @@ use Rattle.std.proofs.Common.{is_some, is_none, not, option_to_list, option_and_
 use Rattle.std.proofs.Common.{true≢false}
 use Rattle.std.proofs.Common.{length-append}
 use Rattle.std.specs.Option.{option_map, option_zip}
+use Rattle.list_lemmas.proofs.Options.{length-list_of_zip}
 use Rattle.trace_base.specs.declared.messages.LinkEvent.{LinkEvent}
 use Rattle.paje_defs.specs.declared.event_name.EventName.{EventName}
 use Rattle.paje_defs.specs.declared.event_name.EventName.TheVariants as events
@@ -25,8 +26,8 @@ use Rattle.paje_model.specs.Known.{IsKnown}
 use Rattle.paje_model.specs.LinkTold.{link_told}
 use Rattle.paje_defs.proofs.PlacedMore.{told-more}
 use Rattle.paje_defs.proofs.RefusedMore.{Keeps, unrefused}
-use Rattle.paje_legal.proofs.LinkEvents.{links_in-more}
-use Rattle.paje_legal.proofs.NoReason.{each_none, linked}
+use Rattle.paje_lines.proofs.LinkEvents.{links_in-more}
+use Rattle.paje_lines.proofs.NoReason.{each_none, linked}
 use Rattle.paje_model.proofs.KeptFacts.{AreValues-kept}
 use Rattle.paje_model.proofs.KeptKnown.{IsApart, known-next}
 use Rattle.paje_model.proofs.TypesSoFar.{types_kept}
@@ -47,12 +48,6 @@ container_some : (role : Role) (o : Option ℕ) → when (is_none o) (UnknownEnt
     → is_some o ≡ true
 container_some role None e = absurd (true≢false (ap is_some e))
 container_some role (Some c) e = refl
-
-one_told : {X : Type 0} (f : ℕ × ℕ → X) (kind container : Option ℕ) → is_some kind ≡ true
-    → is_some container ≡ true → length (option_to_list (option_map f (option_zip kind container))) ≡ 1
-one_told f (Some k) (Some c) is there = refl
-one_told f None container is there = absurd (true≢false (sym is))
-one_told f (Some k) None is there = absurd (true≢false (sym there))
 
 abbrev told_at : EventLine → ℕ × ℕ → LinkEvent
 told_at line both = link_told line both.0 both.1
@@ -77,7 +72,7 @@ one_more before line none is holds =
         let reasons = each_none (type_reason (λ sort. is_some (link_number sort)) before line roles.Kind
         ∷ container_reason before line (end_role line.event) ∷ full what.LinkEvents (links_in before) ∷ [])
         (linked line.event before line is e) in
-        one_told (told_at line) kind container
+        length-list_of_zip (told_at line) kind container
         (number_some roles.Kind (type_named before (text_of line roles.Kind)) reasons.0)
         (container_some (end_role line.event) container reasons.1.0)
 

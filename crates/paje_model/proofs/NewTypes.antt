@@ -31,8 +31,8 @@ use Rattle.paje_model.specs.EntityTable.{entities_in}
 use Rattle.paje_model.specs.Known.{AreValues, IsKnown}
 use Rattle.paje_model.specs.NewType.{AddsType}
 use Rattle.paje_model.specs.ValueTable.{values_kept}
-use Rattle.paje_legal.proofs.NoReason.{each_none, room}
-use Rattle.paje_legal.proofs.StateTypes.{kinds_within, kinds-length, state_types-more}
+use Rattle.paje_lines.proofs.NoReason.{each_none, room}
+use Rattle.paje_lines.proofs.StateTypes.{kinds_within, kinds-length, state_types-more}
 use Rattle.paje_model.proofs.FoundPlaces.{values-within}
 use Rattle.paje_model.proofs.KeptFacts.{links-kept, values-kept}
 use Rattle.paje_model.proofs.KeptKnown.{IsApart, known-next}
@@ -40,7 +40,7 @@ use Rattle.paje_model.proofs.TypesSoFar.{state-told, types_taken}
 
 -- ---- the reasons against it
 
-taken_line : (o : Option Entity) → option_map DoubleAlias (option_map (λ e. e.line) o)
+pub taken_line : (o : Option Entity) → option_map DoubleAlias (option_map (λ e. e.line) o)
     ≡ option_map (λ e. DoubleAlias e.line) o
 taken_line None = refl
 taken_line (Some e) = refl
@@ -62,7 +62,7 @@ some_type lines k known =
     let is = ap length known.types.sorts ∙ length-map (types_in lines) (λ t. t.sort) in
     omega (arith, is)
 
-nothing_taken : (o : Option Entity) → option_map (λ e. DoubleAlias e.line) o ≡ None → o ≡ None
+pub nothing_taken : (o : Option Entity) → option_map (λ e. DoubleAlias e.line) o ≡ None → o ≡ None
 nothing_taken None e = refl
 nothing_taken (Some t) e = absurd (true≢false (ap is_some e))
 

@@ -1,9 +1,9 @@
 -- What is known after a line that defines a value.
 use Rattle.std.proofs.Common.{◌≡◌, ℕ, ◌+◌, ◌<◌, ◌^◌, ◌==◌, Bool, true, false, cond, List, [], ◌∷◌, ◌++◌}
 use Rattle.std.proofs.Common.{length}
-use Rattle.std.proofs.Common.{map, filter, find, set, get_or, slice_get, Option, Some, None, IfSome, is_some}
+use Rattle.std.proofs.Common.{map, filter, find, set, get_or, slice_get, Option, Some, None}
 use Rattle.std.proofs.Common.{refl, sym}
-use Rattle.std.proofs.Common.{ap, ap₂, subst, ◌∙◌, true≢false, arith, option_to_list, length-append}
+use Rattle.std.proofs.Common.{ap, ap₂, subst, ◌∙◌, arith, option_to_list, length-append}
 use Rattle.std.specs.List.{range_with_len}
 use Rattle.std.specs.Option.{option_map, option_map_or}
 use Rattle.std.proofs.lemmas.Bool.{eqb-false, eqb-true}
@@ -14,6 +14,7 @@ use Rattle.std.proofs.lemmas.List.Elements.{filter-append}
 use Rattle.std.proofs.lemmas.List.FromFn.{get_or-map-range_with_len, length-map-range_with_len}
 use Rattle.std.proofs.lemmas.List.Sums.{count_by-le-length, length-filter}
 use Rattle.std.proofs.lemmas.Option.{slice_get-get_or, slice_get-map}
+use Rattle.list_lemmas.proofs.Filters.{count-kept}
 use Rattle.paje_defs.specs.declared.event_name.EventName.TheVariants as events
 use Rattle.paje_defs.specs.declared.role.Role.TheVariants as roles
 use Rattle.paje_defs.specs.Refusals.{first_of}
@@ -31,17 +32,14 @@ use Rattle.paje_model.specs.EntityTable.{entities_in}
 use Rattle.paje_model.specs.Known.{AreValues, IsKnown}
 use Rattle.paje_model.specs.ValueTable.{AreNamed, values_at, values_kept}
 use Rattle.paje_defs.proofs.PlacedMore.{told-more}
-use Rattle.paje_legal.proofs.NoReason.{each_none, room}
-use Rattle.paje_model.proofs.FoundPlaces.{kind-within}
-use Rattle.paje_model.proofs.KeptFacts.{AreValues-untold, count-kept, links-kept}
+use Rattle.paje_lines.proofs.NoReason.{each_none, room}
+use Rattle.paje_lines.proofs.StateTypes.{kind_exists}
+use Rattle.paje_model.proofs.KeptFacts.{AreValues-untold, links-kept}
 use Rattle.paje_model.proofs.KeptKnown.{IsApart, known-next}
 use Rattle.paje_model.proofs.TypesSoFar.{types_kept}
+use Rattle.paje_model.proofs.NewTypes.{nothing_taken, taken_line}
 
 -- ---- the values of one state type
-
-there : (lines : List EventLine) (text : List ℕ) (kind : ℕ) → kind_named lines text ≡ Some kind
-    → kind < state_types lines
-there lines text kind is = subst (λ o. IfSome o (λ k. k < state_types lines)) is (kind-within lines text)
 
 some_at : (o : Option (List Entity)) (es : List Entity) → o ≡ Some es → option_map_or (λ x. x) o [] ≡ es
 some_at o es is = ap (λ o. option_map_or (λ x. x) o []) is
@@ -68,14 +66,9 @@ pub kinds-there : (lines : List EventLine) (t : ValueTable) (text : List ℕ) (k
     → kind_named lines text ≡ Some kind → kind < length (values_kept t)
 kinds-there lines t text kind are is = subst (λ es. kind < length es) (sym are.values)
     (subst (λ n. kind < n) (sym (length-map-range_with_len (values_of lines) 0 (state_types lines)))
-    (there lines text kind is))
+    (kind_exists lines text kind is))
 
 -- ---- the reasons against it
-
-taken_line : (o : Option Entity) → option_map DoubleAlias (option_map (λ e. e.line) o)
-    ≡ option_map (λ e. DoubleAlias e.line) o
-taken_line None = refl
-taken_line (Some e) = refl
 
 pub value-reason : (lines : List EventLine) (line : EventLine) (k : Known) (kind : ℕ) (taken : Option ℕ)
     (count : ℕ) → IsKnown lines k → kind_named lines (text_of line roles.Kind) ≡ Some kind
@@ -86,19 +79,15 @@ value-reason lines line k kind taken count known named by_alias is =
     ap₂ (λ o n. first_of (o ∷ full what.Values n ∷ []))
     (ap (option_map DoubleAlias) (by_alias ∙ ap (λ es. option_map (λ e. e.line)
     (find (has_alias (alias_of line)) es))
-    (values-at lines k.values kind known.values (there lines (text_of line roles.Kind) kind named)))
+    (values-at lines k.values kind known.values (kind_exists lines (text_of line roles.Kind) kind named)))
     ∙ taken_line (find (has_alias (alias_of line)) (values_of lines kind)))
     (is ∙ known.values.count)
-
-nothing_taken : (o : Option Entity) → option_map (λ e. DoubleAlias e.line) o ≡ None → o ≡ None
-nothing_taken None e = refl
-nothing_taken (Some t) e = absurd (true≢false (ap is_some e))
 
 pub value-alias : (lines : List EventLine) (line : EventLine) (k : Known) (kind : ℕ) → IsKnown lines k
     → kind_named lines (text_of line roles.Kind) ≡ Some kind → new_value_reason lines line kind ≡ None
     → find (has_alias (alias_of line)) (values_at k.values kind) ≡ None
 value-alias lines line k kind known named none = ap (find (has_alias (alias_of line)))
-    (values-at lines k.values kind known.values (there lines (text_of line roles.Kind) kind named))
+    (values-at lines k.values kind known.values (kind_exists lines (text_of line roles.Kind) kind named))
     ∙ nothing_taken (find (has_alias (alias_of line)) (values_of lines kind))
     (each_none (alias_reason (values_of lines kind) (alias_of line)
     ∷ full what.Values (length (values_in lines)) ∷ []) none).0
@@ -111,7 +100,7 @@ value-room lines line k kind known named none =
     (each_none (alias_reason (values_of lines kind) (alias_of line)
     ∷ full what.Values (length (values_in lines)) ∷ []) none).1.0 in
     let at = ap length (values-at lines k.values kind known.values
-    (there lines (text_of line roles.Kind) kind named)) in
+    (kind_exists lines (text_of line roles.Kind) kind named)) in
     let some = length-map (filter (λ v. v.kind == kind) (values_in lines)) (λ v. v.entity) in
     let counted = length-filter (λ v. v.kind == kind) (values_in lines) in
     let fewer = count_by-le-length (λ v. v.kind == kind) (values_in lines) in
@@ -181,7 +170,7 @@ pub values-added : (lines : List EventLine) (line : EventLine) (kind : ℕ) (old
     → AddsValue line kind old new → AreValues (lines ++ line ∷ []) new
 values-added lines line kind old new are event named adds =
     let e = entity_of line in
-    let within : kind < state_types lines = there lines (text_of line roles.Kind) kind named in
+    let within : kind < state_types lines = kind_exists lines (text_of line roles.Kind) kind named in
     let told : value_at (record { before = lines; line = line }) ≡ Some (record { kind = kind; entity = e })
     = ap₂ (λ b k. cond b (option_map (λ kind. record { kind = kind; entity = e }) k) None)
     (ap defines_value event) named in

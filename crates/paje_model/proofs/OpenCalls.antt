@@ -1,15 +1,15 @@
 -- How many calls of a track are open, and of all tracks of a container.
 use Rattle.std.proofs.Common.{◌≡◌, ℕ, ◌+◌, ◌*◌, ◌<◌, ◌≤◌, ◌^◌, ◌&&◌, ◌==◌, nat_le, Bool, true, false, cond}
 use Rattle.std.proofs.Common.{List, []}
-use Rattle.std.proofs.Common.{◌∷◌, ◌++◌, length, map, filter_map, slice_get, sum_by, Option, Some, None}
+use Rattle.std.proofs.Common.{◌∷◌, ◌++◌, length, map, slice_get, sum_by, Option, Some, None}
 use Rattle.std.proofs.Common.{refl, sym, ◌∙◌, ap, subst, arith, ◌-◌, zero, suc}
-use Rattle.std.specs.List.{cons_option}
 use Rattle.std.specs.Option.{option_map, option_map_or}
 use Rattle.std.proofs.Math.Path.{fun_ext}
 use Rattle.std.proofs.lemmas.Bool.{eqb-false, leb-false, true≢false}
 use Rattle.std.proofs.lemmas.List.{map-append}
-use Rattle.std.proofs.lemmas.List.Sums.{count_by-le-length, length-filter, sum_by-cons, sum_by-le}
+use Rattle.std.proofs.lemmas.List.Sums.{count_by-le-length, length-filter, sum_by-le}
 use Rattle.std.proofs.lemmas.Option.{slice_get-map}
+use Rattle.list_lemmas.proofs.Places.{places_where-items, sum-at_places}
 use Rattle.trace_base.specs.declared.limits.TheConstants.{MAX_OPEN_CALLS, MAX_TRACKS}
 use Rattle.trace_base.specs.declared.names.Track.{Track}
 use Rattle.paje_defs.specs.declared.event_name.EventName.{EventName}
@@ -19,15 +19,14 @@ use Rattle.paje_lines.specs.EventLine.{EventLine, is_state_event, pops, pushes}
 use Rattle.paje_lines.specs.Reasons.{event_reason_at, event_refusal, met}
 use Rattle.paje_lines.specs.States.{container_tracks, is_same, open_behind, open_calls, open_in, states_of}
 use Rattle.paje_lines.specs.States.{track_named, tracks_in}
-use Rattle.paje_legal.proofs.StateEvents.{Meets, is_met, meets}
-use Rattle.paje_legal.proofs.StreamCalls.{AreEntered, opens-cleared, opens-popped, opens-pushed}
-use Rattle.paje_legal.proofs.Tracks.{tells_track, tracks_within}
+use Rattle.paje_lines.proofs.StateEvents.{Meets, is_met, meets}
+use Rattle.paje_lines.proofs.StreamCalls.{AreEntered, opens-cleared, opens-popped, opens-pushed}
+use Rattle.paje_lines.proofs.Tracks.{tells_track, tracks_within}
 use Rattle.paje_model.specs.declared.open_track.OpenTrack.{OpenTrack}
 use Rattle.paje_model.specs.declared.track_table.TrackTable.{TrackTable}
 use Rattle.paje_model.specs.Existing.{track_places}
 use Rattle.paje_model.specs.MadeTracks.{AreTracks, made_of}
 use Rattle.paje_model.specs.TrackTable.{calls_at}
-use Rattle.paje_model.proofs.AtPlaces.{places_where-items}
 use Rattle.paje_model.proofs.KeptFacts.{states-kept}
 use Rattle.paje_model.proofs.TracksSoFar.{states-off, states-on}
 
@@ -120,18 +119,6 @@ few_in lines none c =
 
 -- ---- in the table
 
-sum-told : {X : Type 0} (f : X → ℕ) (at : ℕ → Option X) (places : List ℕ)
-    → sum_by (λ i. option_map_or f (at i) 0) places ≡ sum_by f (filter_map at places)
-sum-told f at [] = refl
-sum-told f at (i ∷ places) = sum_by-cons (λ i. option_map_or f (at i) 0) i places
-    ∙ by (at i) (sum-told f at places)
-  where
-    by : (o : Option _) → sum_by (λ i. option_map_or f (at i) 0) places ≡ sum_by f (filter_map at places)
-        → option_map_or f o 0 + sum_by (λ i. option_map_or f (at i) 0) places
-        ≡ sum_by f (cons_option o (filter_map at places))
-    by None later = omega (arith, later)
-    by (Some x) later = ap (λ n. f x + n) later ∙ sym (sum_by-cons f x (filter_map at places))
-
 calls_made : (lines : List EventLine) (t : TrackTable) → AreTracks lines t → (i : ℕ)
     → calls_at t i ≡ option_map_or (open_calls lines) (slice_get (tracks_in lines) i) 0
 calls_made lines t are i =
@@ -148,5 +135,5 @@ pub calls-summed : (lines : List EventLine) (t : TrackTable) (c : ℕ) → AreTr
     → sum_by (calls_at t) (track_places lines c) ≡ open_in lines c
 calls-summed lines t c are =
     ap (λ f. sum_by f (track_places lines c)) (fun_ext (calls_made lines t are))
-    ∙ (sum-told (open_calls lines) (slice_get (tracks_in lines)) (track_places lines c)
+    ∙ (sum-at_places (open_calls lines) (slice_get (tracks_in lines)) (track_places lines c)
     ∙ ap (sum_by (open_calls lines)) (places_where-items (λ t. t.container == c) (tracks_in lines)))

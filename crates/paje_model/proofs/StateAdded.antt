@@ -1,15 +1,17 @@
 -- A state event that isn't refused, added where it stands.
-use Rattle.std.proofs.Common.{◌≡◌, ℕ, ◌+◌, ◌≤◌, ◌<◌, ◌&&◌, ◌==◌, nat_le, Bool, true, false, cond, List, []}
+use Rattle.std.proofs.Common.{◌≡◌, ℕ, ◌+◌, ◌≤◌, ◌<◌, Bool, true, false, cond, List, []}
 use Rattle.std.proofs.Common.{◌∷◌, ◌++◌}
 use Rattle.std.proofs.Common.{length, map, set, position, slice_get, unwrap_or, Option, Some, None, is_some}
 use Rattle.std.proofs.Common.{refl, sym}
 use Rattle.std.proofs.Common.{ap, ◌∙◌, subst, arith}
 use Rattle.std.specs.Option.{option_map, option_map_or, option_zip}
 use Rattle.std.specs.Str.{bytes_eq}
-use Rattle.std.proofs.lemmas.Bool.{true≢false, ltb-false, leb-false, eqb-false}
+use Rattle.std.proofs.lemmas.Bool.{true≢false, ltb-false}
 use Rattle.std.proofs.lemmas.List.{append-nil, length-map, length-set}
 use Rattle.std.proofs.lemmas.List.Sums.{sum_by_push}
 use Rattle.std.proofs.lemmas.Option.{none-some, same_Some, slice_get_within, slice_get-map}
+use Rattle.list_lemmas.proofs.Numbers.{pos_unless, room_unless}
+use Rattle.list_lemmas.proofs.Positions.{slice_get-last}
 use Rattle.trace_base.specs.declared.limits.TheConstants.{MAX_FUNCTIONS, MAX_OPEN_CALLS, MAX_STATE_EVENTS}
 use Rattle.trace_base.specs.declared.limits.TheConstants.{MAX_TRACKS}
 use Rattle.trace_base.specs.declared.names.Track.{Track}
@@ -27,10 +29,10 @@ use Rattle.paje_lines.specs.States.{open_calls}
 use Rattle.paje_lines.specs.States.{states_in, track_named, tracks_in}
 use Rattle.paje_lines.specs.Types.{kind_named, sort_of}
 use Rattle.paje_lines.specs.Values.{text_among, value_text}
-use Rattle.paje_legal.proofs.Functions.{functions_within}
-use Rattle.paje_legal.proofs.StateEvents.{meets, is_met}
-use Rattle.paje_legal.proofs.NoReason.{when_none}
-use Rattle.paje_legal.proofs.Tracks.{tracks_within}
+use Rattle.paje_lines.proofs.Functions.{functions_within}
+use Rattle.paje_lines.proofs.StateEvents.{meets, is_met}
+use Rattle.paje_lines.proofs.NoReason.{when_none}
+use Rattle.paje_lines.proofs.Tracks.{tracks_within}
 use Rattle.paje_model.specs.declared.function_place.FunctionPlace.{FunctionPlace}
 use Rattle.paje_model.specs.declared.function_place.FunctionPlace.TheVariants.{At, New}
 use Rattle.paje_model.specs.declared.known.Known.{Known}
@@ -53,7 +55,6 @@ use Rattle.paje_model.specs.MadeTracks.{AreTracks, made_of}
 use Rattle.paje_model.specs.StateSpot.{IsSpot}
 use Rattle.paje_model.specs.TrackTable.{ChangesTrack, track_of}
 use Rattle.paje_model.specs.ValueTable.{values_at}
-use Rattle.paje_model.proofs.AtPlaces.{slice_get-last}
 use Rattle.paje_model.proofs.FunctionsSoFar.{functions-more, functions_kept_by}
 use Rattle.paje_model.proofs.StateReads.{HasContainer, has_container, tracks-at}
 use Rattle.paje_model.proofs.StateSteps.{text_found}
@@ -130,14 +131,6 @@ kind_of before line track is = by (kind_named before (text_of line roles.Kind))
     by (Some k) (Some c) is = ap (λ (t : Track). Some t.kind)
         (same_Some (record { container = c; kind = k }) track is)
 
-popped : (n : ℕ) (b : Bool) → b ≡ true → (b && (n == 0)) ≡ false → 1 ≤ n
-popped n true is none = let some = eqb-false n 0 none in omega (arith, some)
-popped n false is none = absurd (true≢false (sym is))
-
-pushed : (n : ℕ) (b : Bool) → b ≡ true → (b && nat_le MAX_OPEN_CALLS n) ≡ false → n + 1 ≤ MAX_OPEN_CALLS
-pushed n true is none = let below = leb-false MAX_OPEN_CALLS n none in omega (arith, below)
-pushed n false is none = absurd (true≢false (sym is))
-
 pub ready : (before : List EventLine) (line : EventLine) (k : Known) (spot : StateSpot) → IsKnown before k
     → is_state_event line.event ≡ true → IsSpot before line spot → Ready before line k spot
 ready before line k spot known state is =
@@ -157,9 +150,10 @@ ready before line k spot known state is =
       functions = subst (λ n. n ≤ MAX_FUNCTIONS) (sym (ap length known.functions))
           (functions_within before known.unrefused);
       tracks = omega (arith, tracks, made);
-      some_open = λ one. popped (open_calls before (track_of spot.pair)) (pops line.event) one row.pops_open;
-      not_deep = λ one. pushed (open_calls before (track_of spot.pair))
-          (pushes line.event) one row.pushes_within;
+      some_open = λ one. pos_unless (open_calls before (track_of spot.pair)) (pops line.event) one
+          row.pops_open;
+      not_deep = λ one. room_unless MAX_OPEN_CALLS (open_calls before (track_of spot.pair)) (pushes
+          line.event) one row.pushes_within;
       states = omega (arith, below, states);
       in_order = ltb-false line.time (last_time before (track_of spot.pair)) (when_none _ _ row.in_order);
       reason = none;

@@ -2,9 +2,10 @@
 use Rattle.std.proofs.Common.{◌≡◌, ℕ, ◌+◌, ◌-◌, ◌≤◌, Bool, true, false, cond, ◌&&◌, ◌==◌, List, [], ◌∷◌, ◌++◌}
 use Rattle.std.proofs.Common.{map, replicate, Option, Some, None, refl, sym, ap, ◌∙◌, subst, arith}
 use Rattle.std.specs.Option.{option_map, option_map_or}
-use Rattle.std.proofs.lemmas.Bool.{true≢false, eqb-false}
+use Rattle.std.proofs.lemmas.Bool.{true≢false}
 use Rattle.std.proofs.lemmas.List.{append-nil, append_assoc, map-append}
 use Rattle.std.proofs.lemmas.Option.{same_Some}
+use Rattle.list_lemmas.proofs.Numbers.{pos_unless}
 use Rattle.trace_base.specs.declared.names.Track.{Track}
 use Rattle.trace_base.specs.declared.stream.Event.{Event}
 use Rattle.trace_base.specs.declared.stream.Event.TheVariants.{Enter, Leave}
@@ -23,10 +24,11 @@ use Rattle.paje_lines.specs.Values.{value_text}
 use Rattle.paje_model.specs.MadeTracks.{made_of}
 use Rattle.paje_model.specs.OpenTrack.{behind_event}
 use Rattle.paje_model.specs.declared.open_track.OpenTrack.{OpenTrack}
-use Rattle.paje_legal.proofs.StateEvents.{meets, is_met}
-use Rattle.paje_legal.proofs.StreamCalls.{AreEntered, opens-cleared, opens-popped, opens-pushed}
-use Rattle.paje_legal.proofs.Tracks.{tells_track}
-use Rattle.paje_model.proofs.TracksSoFar.{Stated, made-next, states-more}
+use Rattle.paje_lines.proofs.StateEvents.{meets, is_met}
+use Rattle.paje_lines.proofs.StreamCalls.{AreEntered, opens-cleared, opens-popped, opens-pushed}
+use Rattle.paje_lines.proofs.Tracks.{tells_track}
+use Rattle.paje_lines.proofs.MoreStates.{states-more}
+use Rattle.paje_model.proofs.TracksSoFar.{Stated, made-next}
 
 -- ---- no more calls are left than were entered
 
@@ -39,10 +41,6 @@ entered_more es events.PopState state some are = (opens-popped es events.PopStat
     refl)).entered
 entered_more es events.ResetState state some are = (opens-cleared es events.ResetState refl).entered
 entered_more es _ state some are = absurd (true≢false (sym state))
-
-popped : (n : ℕ) (b : Bool) → b ≡ true → (b && (n == 0)) ≡ false → 1 ≤ n
-popped n true is none = let some = eqb-false n 0 none in omega (arith, some)
-popped n false is none = absurd (true≢false (sym is))
 
 abbrev states_entered : Track → List EventLine → Type 0
 states_entered track lines = AreEntered (map (λ p. p.line.event) (states_of lines track))
@@ -62,7 +60,7 @@ some_open : (before : List EventLine) (line : EventLine) (track : Track)
 some_open before line track none state named one =
     let m = meets before line none state in
     let same : m.track ≡ track = same_Some m.track track (sym m.named ∙ named) in
-    popped (open_calls before track) (pops line.event) one (subst (λ t. (pops line.event
+    pos_unless (open_calls before track) (pops line.event) one (subst (λ t. (pops line.event
     && (open_calls before t == 0)) ≡ false) same (is_met line (met before line m.track) m.none).pops_open)
 
 entered_keeps : (track : Track) → Keeps event_reason_at (states_entered track)

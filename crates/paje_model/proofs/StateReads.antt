@@ -1,20 +1,20 @@
 -- What the tables tell of the track that a state event names.
-use Rattle.std.proofs.Common.{◌≡◌, ℕ, Bool, true, false, not, List, [], length, map, position}
+use Rattle.std.proofs.Common.{◌≡◌, ℕ, false, not, List, [], length, map, position}
 use Rattle.std.proofs.Common.{slice_get, get_or, Option, Some, None, is_some, is_none, refl, sym, ap, ◌∙◌}
 use Rattle.std.specs.List.{list_any}
 use Rattle.std.specs.Option.{option_and_then, option_map, option_map_or}
 use Rattle.std.specs.Str.{bytes_eq}
-use Rattle.std.proofs.lemmas.Bool.{true≢false}
 use Rattle.std.proofs.lemmas.List.{length-map}
 use Rattle.std.proofs.lemmas.List.Quantifiers.{position-Some}
 use Rattle.std.proofs.lemmas.Option.{slice_get-get_or, slice_get-map}
+use Rattle.list_lemmas.proofs.Found.{any-place}
 use Rattle.trace_base.specs.declared.names.Track.{Track}
 use Rattle.paje_lines.specs.Containers.{DeclaredContainer, container_start, containers_in, destruction}
 use Rattle.paje_lines.specs.EventLine.{EventLine}
 use Rattle.paje_lines.specs.Found.{root}
 use Rattle.paje_lines.specs.Reasons.{met}
 use Rattle.paje_lines.specs.States.{entered_text, functions_entered, is_same, track_named, tracks_in}
-use Rattle.paje_legal.proofs.Tracks.{tells_track, track_exists}
+use Rattle.paje_lines.proofs.Tracks.{tells_track, track_exists}
 use Rattle.paje_model.specs.declared.container_table.Destruction.{Destruction}
 use Rattle.paje_model.specs.declared.container_table.Existing.{Existing}
 use Rattle.paje_model.specs.declared.function_place.FunctionPlace.{FunctionPlace}
@@ -29,7 +29,6 @@ use Rattle.paje_model.specs.Known.{IsKnown}
 use Rattle.paje_model.specs.MadeTracks.{made_of}
 use Rattle.paje_model.specs.StateMet.{Reads}
 use Rattle.paje_model.proofs.ContainersSoFar.{existing-get}
-use Rattle.paje_model.proofs.Different.{any-place}
 use Rattle.paje_model.proofs.TracksSoFar.{made-fresh}
 
 -- ---- its container
@@ -104,12 +103,6 @@ new_track before track place is = by place ∙ ap not (sym (any-place (is_same t
     by : (o : Option ℕ) → is_none o ≡ not (is_some o)
     by None = refl
     by (Some n) = refl
-
-pub none_by : (b : Bool) (o : Option ℕ) → is_some o ≡ not b → b ≡ is_none o
-none_by true None is = refl
-none_by false (Some n) is = refl
-none_by true (Some n) is = absurd (true≢false is)
-none_by false None is = absurd (true≢false (sym is))
 
 new_among : (functions : List (List ℕ)) (entered : Option (List ℕ)) → is_new
     (function_place functions entered)

@@ -1,10 +1,11 @@
 -- Why a state event is refused, and where it stands if it isn't.
-use Rattle.std.proofs.Common.{◌≡◌, ℕ, ◌+◌, ◌<◌, zero, suc, is_some, arith, Bool, cond, List, [], ◌∷◌}
+use Rattle.std.proofs.Common.{◌≡◌, ℕ, is_some, arith, Bool, cond, List, [], ◌∷◌}
 use Rattle.std.proofs.Common.{slice_get, Option, Some}
-use Rattle.std.proofs.Common.{None, Result, Ok, Err, IsErrAnd, MatchResult, sym, ap, ◌∙◌, subst}
+use Rattle.std.proofs.Common.{None, sym, ap, ◌∙◌}
 use Rattle.std.specs.List.{range_with_len}
 use Rattle.std.specs.Option.{option_and_then, option_map, option_map_or, option_zip}
 use Rattle.std.proofs.lemmas.Option.{none-some, same_Some, slice_get-map}
+use Rattle.list_lemmas.proofs.Ranges.{range_get}
 use Rattle.trace_base.specs.declared.names.Track.{Track}
 use Rattle.paje_defs.specs.Refusals.{first_of}
 use Rattle.paje_defs.specs.declared.role.Role.TheVariants as roles
@@ -17,17 +18,12 @@ use Rattle.paje_model.specs.declared.function_place.FunctionPlace.{FunctionPlace
 use Rattle.paje_model.specs.FunctionPlace.{function_place}
 use Rattle.paje_lines.specs.Types.{kind_named, state_number, state_types}
 use Rattle.paje_lines.specs.Values.{text_among, value_text, values_of}
-use Rattle.paje_legal.proofs.StateTypes.{kind_exists}
+use Rattle.paje_lines.proofs.StateTypes.{kind_exists}
 use Rattle.paje_model.specs.declared.value_table.ValueTable.{ValueTable}
 use Rattle.paje_model.specs.declared.entity_table.EntityTable.{EntityTable}
 use Rattle.paje_model.specs.EntityTable.{entities_in}
 use Rattle.paje_model.specs.Known.{AreValues}
 use Rattle.paje_model.specs.ValueTable.{values_at}
-
-pub fault_told : {X F : Type 0} (P : X → Type 0) (Q : F → Type 0) (r : Result X F) (fault : F)
-    → IsErrAnd r (λ e. e ≡ fault) → Q fault → MatchResult r P Q
-fault_told P Q (Ok x) fault is holds = absurd is
-fault_told P Q (Err e) fault is holds = subst Q (sym is) holds
 
 -- ---- the row of reasons
 
@@ -63,12 +59,6 @@ on_named before line track last named is = ap (option_and_then (on_track before 
 
 -- ---- the text that it enters
 
-range-get : (a n i at : ℕ) → a + i ≡ at → i < n → slice_get (range_with_len a n) i ≡ Some at
-range-get a zero i at is within = absurd (omega (arith, within))
-range-get a (suc n) zero at is within = ap Some (omega (arith, is))
-range-get a (suc n) (suc i) at is within = range-get (a + 1) n i at (omega (arith, is)) (omega
-    (arith, within))
-
 -- the values of a state type are those that the lines declare
 pub values_found : (before : List EventLine) (t : ValueTable) (text : List ℕ) (kind : ℕ) → AreValues before t
     → kind_named before text ≡ Some kind → values_at t kind ≡ values_of before kind
@@ -76,7 +66,7 @@ values_found before t text kind are named =
     by (slice_get t.of_kinds.items kind) (sym (slice_get-map entities_in t.of_kinds.items kind)
     ∙ (ap (λ es. slice_get es kind) are.values
     ∙ (slice_get-map (values_of before) (range_with_len 0 (state_types before)) kind
-    ∙ ap (option_map (values_of before)) (range-get 0 (state_types before) kind kind (omega arith)
+    ∙ ap (option_map (values_of before)) (range_get 0 (state_types before) kind kind (omega arith)
     (kind_exists before text kind named)))))
   where
     by : (o : Option EntityTable) → option_map entities_in o ≡ Some (values_of before kind)

@@ -1,5 +1,5 @@
 -- The first reason of a step, and a refusal by it.
-use Rattle.std.proofs.Common.{◌≡◌, List, [], ◌∷◌, refl, Option, Some, None, Result, Ok, Err, IsErrAnd, sym}
+use Rattle.std.proofs.Common.{◌≡◌, List, ◌∷◌, Option, Some, None, Result, Ok, Err, IsErrAnd, sym}
 use Rattle.std.proofs.Common.{ap, ◌∙◌, inr}
 use Rattle.paje_defs.specs.Refusals.{first_of}
 use Rattle.paje_lines.specs.declared.effect.Effect.{Effect}
@@ -15,10 +15,6 @@ passed reason reasons first none is = ap (λ o. first_of (o ∷ reasons)) none �
 pub told_first : {F : Type 0} (reason : Option F) (reasons : List (Option F)) (fault : F)
     → reason ≡ Some fault → first_of (reason ∷ reasons) ≡ Some fault
 told_first reason reasons fault is = ap (λ o. first_of (o ∷ reasons)) is
-
-pub last_one : {F : Type 0} (reason : Option F) → first_of (reason ∷ []) ≡ reason
-last_one None = refl
-last_one (Some fault) = refl
 
 pub refused-by : (step : Step) (new : Known) (r : Result Effect ModelFault) (fault : ModelFault)
     → IsErrAnd r (λ e. e ≡ fault) → step.reason ≡ Some fault → Takes step new r

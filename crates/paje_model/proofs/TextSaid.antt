@@ -1,12 +1,13 @@
 -- What the tables of a trace's lines give is what the lines say.
-use Rattle.std.proofs.Common.{◌≡◌, ℕ, ◌+◌, ◌<◌, List, [], ◌∷◌, map, length, get_or, slice_get, Option, Some}
+use Rattle.std.proofs.Common.{◌≡◌, ℕ, ◌<◌, List, [], ◌∷◌, map, length, get_or, slice_get, Option, Some}
 use Rattle.std.proofs.Common.{None, refl, sym, ◌∙◌, ap, subst}
-use Rattle.std.specs.List.{All, AllByRecursion, cons_option, enumerate_from, range_with_len, zip}
+use Rattle.std.specs.List.{All, AllByRecursion, cons_option, enumerate_from, zip}
 use Rattle.std.specs.Option.{option_map, option_map_or}
 use Rattle.std.proofs.lemmas.List.Elements.{All-from_recursion}
 use Rattle.std.proofs.lemmas.Option.{slice_get-get_or}
 use Rattle.std.proofs.lemmas.Simd.{map-map}
-use Rattle.trace_base.proofs.Order.{all_mapped}
+use Rattle.list_lemmas.proofs.Each.{all_mapped}
+use Rattle.list_lemmas.proofs.Maps.{enumerate-zip, map_agree}
 use Rattle.trace_base.specs.declared.names.Container.{Container}
 use Rattle.trace_base.specs.declared.names.Track.{Track}
 use Rattle.trace_base.specs.declared.stream.TrackStream.{TrackStream}
@@ -17,8 +18,8 @@ use Rattle.paje_lines.specs.Containers.{DeclaredContainer, containers_in, contai
 use Rattle.paje_lines.specs.Containers.{greatest}
 use Rattle.paje_lines.specs.States.{tracks_in}
 use Rattle.paje_lines.specs.Text.{container_of, containers_of, events_of, track_stream}
-use Rattle.paje_legal.proofs.Containers.{containers-get, containers-length}
-use Rattle.paje_legal.proofs.Tracks.{tracks_exist}
+use Rattle.paje_lines.proofs.Containers.{containers-get, containers-length}
+use Rattle.paje_lines.proofs.Tracks.{tracks_exist}
 use Rattle.paje_model.specs.declared.container_table.Destruction.{Destruction}
 use Rattle.paje_model.specs.declared.known.Known.{Known}
 use Rattle.paje_model.specs.Existing.{existing_at, existing_in}
@@ -28,10 +29,6 @@ use Rattle.paje_model.specs.MadeTracks.{made_of}
 use Rattle.paje_model.specs.TrackTable.{tracks_kept}
 
 -- ---- containers
-
-numbered : {X : Type 0} (n : ℕ) (xs : List X) → enumerate_from n xs ≡ zip (range_with_len n (length xs)) xs
-numbered n [] = refl
-numbered n (x ∷ xs) = ap (λ ps. (n, x) ∷ ps) (numbered (n + 1) xs)
 
 ended : (lines : List EventLine) (p : ℕ × DeclaredContainer)
     → lasting_until (greatest lines) (existing_at lines p) ≡ container_of lines p
@@ -44,11 +41,6 @@ ended lines p = ap (λ end. record { name = p.1.entity.name; start = p.1.start; 
     by None = refl
     by (Some line) = refl
 
-map_agree : {X Y : Type 0} (f g : X → Y) → ((x : X) → f x ≡ g x) → (xs : List X) → map f xs ≡ map g xs
-map_agree f g same [] = refl
-map_agree f g same (x ∷ xs) =
-    ap (λ y. y ∷ map f xs) (same x) ∙ ap (λ ys. g x ∷ ys) (map_agree f g same xs)
-
 -- those that exist, with their ends
 pub containers_said : (lines : List EventLine)
     → map (lasting_until (greatest lines)) (existing_in lines) ≡ containers_of lines
@@ -56,7 +48,7 @@ containers_said lines =
     map-map (lasting_until (greatest lines)) (existing_at lines) (enumerate_from 0 (containers_in lines))
     ∙ (map_agree (λ p. lasting_until (greatest lines) (existing_at lines p)) (container_of lines) (ended lines)
     (enumerate_from 0 (containers_in lines))
-    ∙ ap (map (container_of lines)) (numbered 0 (containers_in lines)))
+    ∙ ap (map (container_of lines)) (enumerate-zip 0 (containers_in lines)))
 
 -- ---- tracks
 

@@ -4,10 +4,10 @@ use Rattle.std.specs.Map.{keys_of}
 use Rattle.std.proofs.lemmas.List.{map-append}
 use Rattle.indexmap.specs.IndexMap.{insert_entry}
 use Rattle.indexmap.proofs.MapLemmas.{absent_from_lookup, insert_entry-absent}
+use Rattle.list_lemmas.proofs.Places.{position-map}
 use Rattle.paje_model.specs.declared.track_table.Pair.{Pair}
 use Rattle.paje_lines.specs.States.{is_same}
 use Rattle.paje_model.specs.TrackTable.{track_of}
-use Rattle.paje_model.proofs.Places.{position-map}
 use Rattle.paje_model.proofs.DeclaredEntities.{missed}
 
 abbrev same_pair : Pair → Pair → Bool

@@ -6,6 +6,8 @@ use Rattle.std.specs.Option.{option_map_or}
 use Rattle.std.proofs.lemmas.Bool.{false_from_ne_true}
 use Rattle.std.proofs.lemmas.List.{append-nil}
 use Rattle.std.proofs.lemmas.List.Elements.{filter-append}
+use Rattle.list_lemmas.proofs.Found.{any-place}
+use Rattle.list_lemmas.proofs.Last.{last-push}
 use Rattle.trace_base.specs.declared.names.Track.{Track}
 use Rattle.paje_defs.specs.Refusals.{Placed, placed}
 use Rattle.paje_defs.proofs.PlacedMore.{placed-more}
@@ -13,10 +15,8 @@ use Rattle.paje_lines.specs.EventLine.{EventLine}
 use Rattle.paje_lines.specs.Containers.{container_start, containers_in}
 use Rattle.paje_lines.specs.Found.{distinct_by}
 use Rattle.paje_lines.specs.States.{is_on, is_same, last_time, states_of, track_at, tracks_in}
-use Rattle.paje_legal.proofs.Containers.{start-more}
-use Rattle.paje_legal.proofs.StreamCalls.{last-push}
-use Rattle.paje_legal.proofs.Tracks.{tells_track}
-use Rattle.paje_model.proofs.Different.{any-place}
+use Rattle.paje_lines.proofs.Containers.{start-more}
+use Rattle.paje_lines.proofs.Tracks.{tells_track}
 use Rattle.paje_model.proofs.KeptFacts.{told-kept}
 use Rattle.paje_model.proofs.TracksSoFar.{tracks-more}
 

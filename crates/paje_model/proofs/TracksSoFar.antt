@@ -8,7 +8,10 @@ use Rattle.std.specs.List.{cons_option, flat_map, last_or, list_any, position_or
 use Rattle.std.specs.Option.{option_map_or, option_to_list}
 use Rattle.std.proofs.lemmas.Bool.{true≢false}
 use Rattle.std.proofs.lemmas.List.{append-nil, flat_map_more, map-append}
-use Rattle.std.proofs.lemmas.List.Elements.{filter-append}
+use Rattle.list_lemmas.proofs.Distinct.{map_one, same_swap}
+use Rattle.list_lemmas.proofs.Found.{any-place}
+use Rattle.list_lemmas.proofs.Last.{last-push}
+use Rattle.list_lemmas.proofs.Places.{place_new, placed_at}
 use Rattle.trace_base.specs.declared.names.Track.{Track}
 use Rattle.trace_base.specs.declared.stream.Event.{Event}
 use Rattle.paje_defs.specs.Refusals.{Placed, placed}
@@ -20,13 +23,11 @@ use Rattle.paje_lines.specs.States.{tracks_in}
 use Rattle.paje_lines.specs.Text.{events_at}
 use Rattle.paje_model.specs.declared.open_track.OpenTrack.{OpenTrack}
 use Rattle.paje_model.specs.MadeTracks.{made_of}
-use Rattle.paje_defs.proofs.PlacedMore.{placed-more, told-more}
-use Rattle.paje_legal.proofs.DistinctItems.{distinct_apart}
-use Rattle.paje_legal.proofs.StreamCalls.{last-push}
-use Rattle.paje_legal.proofs.Tracks.{tells_track}
-use Rattle.paje_model.proofs.Different.{tells-swap, any-distinct, any-place, distinct-next, map-one}
-use Rattle.paje_model.proofs.Different.{place-new}
-use Rattle.paje_model.proofs.Different.{placed_at}
+use Rattle.paje_defs.proofs.PlacedMore.{told-more}
+use Rattle.paje_lines.proofs.DistinctItems.{distinct_apart}
+use Rattle.paje_lines.proofs.Tracks.{tells_track}
+use Rattle.paje_lines.proofs.MoreStates.{states-more}
+use Rattle.paje_model.proofs.Different.{any-distinct, distinct-next}
 use Rattle.paje_model.proofs.FunctionsSoFar.{events_numbered}
 
 -- ---- the tracks, and the state events of each
@@ -40,15 +41,6 @@ tracks-more lines line track place is at =
     ap (distinct_by is_same) (told-more track_at lines line
     ∙ ap (λ o. filter_map track_at (placed lines) ++ option_to_list o) is)
     ∙ distinct-next is_same tells_track (filter_map track_at (placed lines)) track place at
-
-pub states-more : (lines : List EventLine) (line : EventLine) (t : Track) (b : Bool)
-    → is_on t (record { before = lines; line = line }) ≡ b
-    → states_of (lines ++ line ∷ []) t ≡ states_of lines t ++ cond b (record { before = lines; line = line } ∷
-    []) []
-states-more lines line t b is =
-    ap (filter (is_on t)) (placed-more lines line)
-    ∙ (filter-append (is_on t) (placed lines) (record { before = lines; line = line } ∷ [])
-    ∙ ap (λ b. states_of lines t ++ cond b (record { before = lines; line = line } ∷ []) []) is)
 
 on-by : (lines : List EventLine) (line : EventLine) (track t : Track) (b : Bool)
     → track_at (record { before = lines; line = line }) ≡ Some track → is_same t track ≡ b
@@ -66,7 +58,7 @@ pub states-off : (lines : List EventLine) (line : EventLine) (track t : Track)
     → track_at (record { before = lines; line = line }) ≡ Some track → is_same track t ≡ false
     → states_of (lines ++ line ∷ []) t ≡ states_of lines t
 states-off lines line track t is other = states-more lines line t false (on-by lines line track t false is
-    (tells-swap is_same tells_track t track ∙ other)) ∙ append-nil (states_of lines t)
+    (same_swap is_same tells_track t track ∙ other)) ∙ append-nil (states_of lines t)
 
 none-on : (track : Track) (ps : List (Placed EventLine)) → list_any (is_same track) (filter_map track_at ps)
     ≡ false → filter (is_on track) ps ≡ []
@@ -202,7 +194,7 @@ place_by : (lines : List EventLine) (track : Track) (place : Option ℕ)
     → position (is_same track) (tracks_in lines) ≡ place
     → position_or_len (is_same track) (tracks_in lines ++ cond (is_some place) [] (track ∷ []))
     ≡ place_of lines place
-place_by lines track None at = place-new (is_same track) (tracks_in lines) track
+place_by lines track None at = place_new (is_same track) (tracks_in lines) track
     (any-place (is_same track) (tracks_in lines) ∙ ap is_some at) ((tells_track track track).1 refl)
 place_by lines track (Some n) at = ap (position_or_len (is_same track)) (append-nil (tracks_in lines))
     ∙ placed_at (is_same track) (tracks_in lines) n at
@@ -218,7 +210,7 @@ made_after lines line track new place is at =
     let after = lines ++ line ∷ [] in
     let all = tracks_in lines ++ cond (is_some place) [] (track ∷ []) in
     let tracks : tracks_in after ≡ all = tracks-more lines line track place is.at at in
-    map-one is_same tells_track (made_of lines) (made_of after) track
+    map_one is_same tells_track (made_of lines) (made_of after) track
     (λ t other. made-other lines line track new t is other) (tracks_in after)
     (distinct_apart is_same (filter_map track_at (placed after)))
     ∙ (ap (λ ts. set (map (made_of lines) ts) (position_or_len (is_same track) ts)

@@ -3,6 +3,7 @@ use Rattle.std.proofs.Common.{◌≡◌, List, [], ◌∷◌, ◌++◌, map, Boo
 use Rattle.std.proofs.Common.{refl, sym, ◌∙◌, ap, is_some}
 use Rattle.std.specs.Option.{option_map, option_map_or, option_to_list}
 use Rattle.std.proofs.lemmas.List.{append-nil, map-append}
+use Rattle.list_lemmas.proofs.Filters.{map-filter_push}
 use Rattle.paje_defs.specs.declared.event_name.EventName.{EventName}
 use Rattle.paje_defs.specs.declared.event_name.EventName.TheVariants as events
 use Rattle.paje_defs.specs.declared.role.Role.TheVariants as roles
@@ -12,7 +13,7 @@ use Rattle.paje_lines.specs.EventLine.{EventLine, text_of, is_state_type, is_lin
 use Rattle.paje_lines.specs.Types.{DeclaredType, root_type, type_at, types_in, sort_of, rooted_entity}
 use Rattle.paje_lines.specs.Types.{state_number, link_number, kinds_in, link_kinds_in}
 use Rattle.paje_model.specs.TypeTable.{AreTypes, TakesType}
-use Rattle.paje_defs.proofs.PlacedMore.{told-more, picked-more}
+use Rattle.paje_defs.proofs.PlacedMore.{told-more}
 
 -- ---- the types, after one more line
 
@@ -54,7 +55,7 @@ kinds-more : (lines : List EventLine) (line : EventLine) (sort : Option TypeSort
     → sort_of lines line.event ≡ sort → kinds_in (lines ++ line ∷ [])
     ≡ kinds_in lines ++ cond (option_map_or is_state sort false) (text_of line roles.Name ∷ []) []
 kinds-more lines line sort is =
-    picked-more (λ l. is_state_type l.event) (λ l. text_of l roles.Name) lines line
+    map-filter_push (λ l. is_state_type l.event) (λ l. text_of l roles.Name) lines line
     ∙ ap (λ b. kinds_in lines ++ cond b (text_of line roles.Name ∷ []) [])
     (sym (state-told lines line.event) ∙ ap (λ o. option_map_or is_state o false) is)
 
@@ -62,7 +63,7 @@ link_kinds-more : (lines : List EventLine) (line : EventLine) (sort : Option Typ
     → sort_of lines line.event ≡ sort → link_kinds_in (lines ++ line ∷ [])
     ≡ link_kinds_in lines ++ cond (option_map_or is_link sort false) (text_of line roles.Name ∷ []) []
 link_kinds-more lines line sort is =
-    picked-more (λ l. is_link_type l.event) (λ l. text_of l roles.Name) lines line
+    map-filter_push (λ l. is_link_type l.event) (λ l. text_of l roles.Name) lines line
     ∙ ap (λ b. link_kinds_in lines ++ cond b (text_of line roles.Name ∷ []) [])
     (sym (link-told lines line.event) ∙ ap (λ o. option_map_or is_link o false) is)
 

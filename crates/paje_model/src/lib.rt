@@ -29,10 +29,3 @@ mod type_table;
 mod value_table;
 
 pub use entities::Entities;
-
-#[cfg(test)]
-mod tests;
-#[cfg(test)]
-mod told;
-#[cfg(test)]
-mod written;

@@ -1,6 +1,6 @@
 -- What is kept of the first bundles, with one bundle more.
 use native.Mathlib.Omega.{arith}
-use Rattle.std.proofs.Common.{◌≡◌, ℕ, ◌+◌, ◌*◌, ◌/◌, ◌%◌, ◌^◌, ◌<◌, ◌≤◌, zero, suc, List, [], ◌∷◌, ◌++◌, ◌∙◌}
+use Rattle.std.proofs.Common.{◌≡◌, ℕ, ◌+◌, ◌*◌, ◌/◌, ◌%◌, ◌^◌, ◌<◌, ◌≤◌, suc, List, [], ◌∷◌, ◌++◌, ◌∙◌}
 use Rattle.std.proofs.Common.{add-one, ap, map, replicate, refl, slice_index_or, slice_set}
 use Rattle.std.proofs.Common.{subst, sym, true, false, eqb}
 use Rattle.std.specs.List.{range_with_len, sum_by}
@@ -8,44 +8,18 @@ use Rattle.std.proofs.lemmas.Bool.{cond-true, cond-false, eq-eqb, ne_eqb}
 use Rattle.std.proofs.lemmas.List.{append-nil}
 use Rattle.std.proofs.lemmas.List.FromFn.{get_or-map-range_with_len}
 use Rattle.std.proofs.lemmas.List.FromFn.{map-range_with_len_more}
+use Rattle.list_lemmas.proofs.Ranges.{flat_range_more, range_changed}
 use Rattle.paje_print.specs.Bundles.{AreBundles}
 use Rattle.paje_print.specs.Generated.{bundle_end, bundle_links, bundle_start, bundle_time, clock_behind}
 use Rattle.paje_print.specs.Generated.{kernel_of, link_end, next_random, random_after, rank_of_bundle}
 use Rattle.paje_print.specs.Generated.{track_of_bundle}
 use Rattle.trace_base.specs.declared.messages.LinkEvent.{LinkEvent}
 use Rattle.paje_print.specs.declared.bundles.Bundles.{Bundles}
-use Rattle.paje_print.proofs.RangesLeft.{flat_range_more}
 use Rattle.paje_print.proofs.GeneratedTimes.{bundles-push_off, clock-limit, clock-push, track-below}
 
 -- no track has a bundle
 pub no_clocks : (seed : ℕ) → replicate 128 0 ≡ map (λ track. clock_behind seed track 0) (range_with_len 0 128)
 no_clocks seed = refl
-
--- the values over a range, of which none changes
-same_from : (f g : ℕ → ℕ) (a n : ℕ) → ((j : ℕ) → a ≤ j → f j ≡ g j)
-    → map f (range_with_len a n) ≡ map g (range_with_len a n)
-same_from f g a zero same = refl
-same_from f g a (suc n) same = ap (λ x. x ∷ map f (range_with_len (a + 1) n)) (same a (omega arith))
-    ∙ ap (λ xs. g a ∷ xs) (same_from f g (a + 1) n (λ j past. same j (omega (arith, past))))
-
--- the values over a range, of which one changes
-changed_at : (f g : ℕ → ℕ) (a n k : ℕ) → k < n → ((j : ℕ) → (j ≡ a + k → ⊥) → f j ≡ g j)
-    → slice_set (map f (range_with_len a n)) k (g (a + k)) ≡ map g (range_with_len a n)
-changed_at f g a zero k small same = elim (none k small) [ ]
-  where
-    none : (k : ℕ) → k < 0 → ⊥
-    none k small = omega (arith, small)
-changed_at f g a (suc n) zero small same = ap (λ x. x ∷ map f (range_with_len (a + 1) n)) (ap g at)
-    ∙ ap (λ xs. g a ∷ xs) (same_from f g (a + 1) n (λ j past. same j (λ is. omega (arith, past, is))))
-  where
-    at : a + 0 ≡ a
-    at = omega arith
-changed_at f g a (suc n) (suc k) small same =
-    let later : List ℕ = map f (range_with_len (a + 1) n) in
-    let moved : a + suc k ≡ a + 1 + k = omega arith in
-    ap (λ x. x ∷ slice_set later k (g (a + suc k))) (same a (λ is. omega (arith, is)))
-    ∙ ap (λ xs. g a ∷ xs) (ap (λ v. slice_set later k (g v)) moved
-    ∙ changed_at f g (a + 1) n k (omega (arith, small)) (λ j other. same j (λ is. other (omega (arith, is)))))
 
 -- the clocks of so many tracks, of which one has one bundle more
 clocks_changed : (seed n tracks track : ℕ) → track < tracks → track_of_bundle n ≡ track
@@ -58,7 +32,7 @@ clocks_changed seed n tracks track small on =
     let this : behind (0 + track) ≡ bundle_end seed n =
     ap behind (first ∙ sym on) ∙ clock-push seed n in
     ap (λ v. slice_set (map before (range_with_len 0 tracks)) track v) (sym this)
-    ∙ changed_at before behind 0 tracks track small (λ t other. ap (sum_by (bundle_time seed))
+    ∙ range_changed before behind 0 tracks track small (λ t other. ap (sum_by (bundle_time seed))
     (sym (bundles-push_off t n (λ is. other (omega (arith, is, on))))))
 
 clocks_more : (seed n : ℕ) → slice_set (map (λ track. clock_behind seed track n) (range_with_len 0 128))

@@ -1,11 +1,13 @@
 -- A test that shows a written-out trace to have a canonical text, by computing.
-use Rattle.std.proofs.Common.{◌≡◌, ◌+◌, List, [], ◌∷◌, Bool, true, ◌&&◌, nat_le, nat_lt, nat_eq}
+use Rattle.std.proofs.Common.{◌≡◌, ◌+◌, Bool, true, ◌&&◌, nat_le, nat_lt, nat_eq}
 use Rattle.std.proofs.Common.{length, slice_get, fold, max, sum_by, Some}
 use Rattle.std.specs.List.{AllByRecursion, list_all, range_with_len, zip}
 use Rattle.std.proofs.lemmas.Bool.{and_parts, leb-true, ltb-true}
 use Rattle.std.proofs.lemmas.List.Elements.{All-from_recursion}
 use Rattle.std.proofs.lemmas.Slice.Eq.{bytes_eq-Decides}
 use Rattle.std.specs.Str.{bytes_eq}
+use Rattle.list_lemmas.proofs.Distinct.{AreApart, one_place}
+use Rattle.list_lemmas.proofs.Each.{all_by_test}
 use Rattle.trace_base.specs.Info.{NamesExisting}
 use Rattle.trace_base.specs.Stream.{IsLegal}
 use Rattle.trace_base.specs.declared.limits.TheConstants.{MAX_CONTAINERS, MAX_FUNCTIONS, MAX_LINK_EVENTS}
@@ -19,8 +21,7 @@ use Rattle.trace_base.specs.declared.names.TraceNames.{TraceNames}
 use Rattle.trace_base.specs.declared.text.TraceText.{TraceText}
 use Rattle.paje_lines.specs.Found.{distinct_by}
 use Rattle.paje_lines.specs.States.{is_same}
-use Rattle.paje_legal.proofs.DistinctItems.{AreApart, one_place}
-use Rattle.paje_legal.proofs.Tracks.{tells_track}
+use Rattle.paje_lines.proofs.Tracks.{tells_track}
 use Rattle.paje_print.specs.Canonical.{FitsOnLine, HasCanonicalSize, IsBelowRoot, IsCanonical, IsQuotable}
 use Rattle.paje_print.specs.Canonical.{KeepsLimits, LinksExisting, SpansItsContainer, StartsBeforeItsEnd}
 use Rattle.paje_print.specs.Canonical.{functions_called, last_moments, root_until, size_limit, state_lines_of}
@@ -76,12 +77,6 @@ pub record PassesTest (t : TraceText) : Type 0 where
 
 -- ---- what they tell
 
-passed : {X : Type 0} (p : X → Bool) (P : X → Type 0) → ((x : X) → p x ≡ true → P x) → (xs : List X)
-    → list_all p xs ≡ true → AllByRecursion P xs
-passed p P tells [] e = tt
-passed p P tells (x ∷ xs) e =
-    let both = and_parts (p x) (list_all p xs) e in (tells x both.0, passed p P tells xs both.1)
-
 limits_kept : (t : TraceText) → keeps_limits t ≡ true → KeepsLimits t
 limits_kept t e =
     let time = and_parts (nat_le t.names.end MAX_TIME) _ e in
@@ -102,7 +97,7 @@ limits_kept t e =
       states = leb-true (sum_by state_lines_of t.tracks) MAX_STATE_EVENTS states.0;
       links = leb-true (length t.links) MAX_LINK_EVENTS links.0;
       lines = All-from_recursion FitsOnLine (canonical_lines t)
-          (passed fits_on_line FitsOnLine (λ line e. leb-true (length (line_text line)) MAX_TRACE_LINE e)
+          (all_by_test fits_on_line FitsOnLine (λ line e. leb-true (length (line_text line)) MAX_TRACE_LINE e)
           (canonical_lines t) lines.0);
       text = leb-true (length (canonical_text t)) MAX_TEXT lines.1;
     }
@@ -119,17 +114,17 @@ IsCanonical-from t tests distinct spans legal different =
     let sizes = and_parts (list_all has_canonical_size t.links) _ links.1 in
     record {
       texts = All-from_recursion IsQuotable (texts_in t)
-          (passed (list_all is_plain) IsQuotable quotable (texts_in t) texts.0);
+          (all_by_test (list_all is_plain) IsQuotable quotable (texts_in t) texts.0);
       root = tests.root;
       intervals = All-from_recursion StartsBeforeItsEnd t.names.containers
-          (passed starts_before_its_end StartsBeforeItsEnd (λ c e. leb-true c.start c.end e)
+          (all_by_test starts_before_its_end StartsBeforeItsEnd (λ c e. leb-true c.start c.end e)
           t.names.containers
           intervals.0);
       streams = tests.streams;
       existing = All-from_recursion (NamesExisting t.names) t.names.tracks
-          (passed (names_existing t.names) (NamesExisting t.names) exists t.names.tracks existing.0);
+          (all_by_test (names_existing t.names) (NamesExisting t.names) exists t.names.tracks existing.0);
       below_root = All-from_recursion IsBelowRoot t.names.tracks
-          (passed is_below_root IsBelowRoot (λ track e. ltb-true 0 track.container e) t.names.tracks
+          (all_by_test is_below_root IsBelowRoot (λ track e. ltb-true 0 track.container e) t.names.tracks
           below_root.0);
       distinct = one_place is_same tells_track t.names.tracks distinct;
       spans = All-from_recursion (SpansItsContainer t.names) (zip t.names.tracks t.tracks) spans;
@@ -137,9 +132,10 @@ IsCanonical-from t tests distinct spans legal different =
       different = one_place bytes_eq bytes_eq-Decides t.names.functions different;
       numbered = tests.numbered;
       linked = All-from_recursion (LinksExisting t.names) t.links
-          (passed (links_existing t.names) (LinksExisting t.names) linked t.links links.0);
+          (all_by_test (links_existing t.names) (LinksExisting t.names) linked t.links links.0);
       sizes = All-from_recursion HasCanonicalSize t.links
-          (passed has_canonical_size HasCanonicalSize (λ l e. ltb-true l.size (size_limit l.starts) e) t.links
+          (all_by_test has_canonical_size HasCanonicalSize (λ l e. ltb-true l.size (size_limit l.starts) e)
+          t.links
           sizes.0);
       end = tests.end;
       limits = limits_kept t sizes.1;

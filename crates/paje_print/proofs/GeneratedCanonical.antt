@@ -4,14 +4,13 @@ use Rattle.std.proofs.Common.{arith, ◌∙◌}
 use Rattle.std.specs.List.{AllByRecursion, range_with_len, zip}
 use Rattle.std.proofs.lemmas.List.{length-map}
 use Rattle.std.proofs.lemmas.List.Elements.{All-from_recursion}
+use Rattle.list_lemmas.proofs.Each.{all_append, all_map}
 use Rattle.trace_base.specs.Info.{NamesExisting}
 use Rattle.trace_base.specs.Stream.{IsLegal}
-use Rattle.paje_legal.proofs.Lists.{all_joined}
 use Rattle.paje_print.specs.Canonical.{IsQuotable, IsBelowRoot, StartsBeforeItsEnd, SpansItsContainer}
 use Rattle.paje_print.specs.Canonical.{LinksExisting, HasCanonicalSize, KeepsLimits, IsCanonical, texts_in}
 use Rattle.paje_print.specs.Generated.{generated_end, generated_stream, generated_track, generated_containers}
 use Rattle.paje_print.specs.Generated.{functions_generated, kernels_called, trace_of_bundles}
-use Rattle.paje_print.proofs.GeneratedLists.{all_map}
 use Rattle.paje_print.proofs.GeneratedStreams.{stream-legal}
 use Rattle.paje_print.proofs.GeneratedFunctions.{kernels-few, kernels-below, kernel_text, functions-are}
 use Rattle.paje_print.proofs.GeneratedFunctions.{functions-different, functions-numbered}
@@ -56,10 +55,10 @@ texts-quotable seed count few =
     let kinds : List (List ℕ) = codes "code" ∷ codes "mpi" ∷ [] in
     let link_kinds : List (List ℕ) = codes "msg" ∷ [] in
     let functions : List (List ℕ) = functions_generated seed count in
-    all_joined IsQuotable (names ++ kinds ++ link_kinds ++ functions) (map (λ l. l.key) (links_of seed count))
-    (all_joined IsQuotable (names ++ kinds ++ link_kinds) functions
-    (all_joined IsQuotable (names ++ kinds) link_kinds
-    (all_joined IsQuotable names kinds (names-quotable (generated_end seed count))
+    all_append IsQuotable (names ++ kinds ++ link_kinds ++ functions) (map (λ l. l.key) (links_of seed count))
+    (all_append IsQuotable (names ++ kinds ++ link_kinds) functions
+    (all_append IsQuotable (names ++ kinds) link_kinds
+    (all_append IsQuotable names kinds (names-quotable (generated_end seed count))
     (quotable (codes "code") refl, (quotable (codes "mpi") refl, tt)))
     (quotable (codes "msg") refl, tt))
     (functions-quotable seed count))

@@ -10,14 +10,15 @@ use Rattle.std.proofs.lemmas.List.{append_cancel_left, length-map}
 use Rattle.std.proofs.lemmas.List.Concat.{flat_map-append}
 use Rattle.std.proofs.lemmas.List.Folds.{flat_map-map}
 use Rattle.std.proofs.lemmas.Option.{none-some, same_Some}
-use Rattle.paje_legal.proofs.DistinctItems.{distinct_all, AreApart, distinct_apart, one_place}
-use Rattle.paje_legal.proofs.Lists.{all_joined, found_has}
+use Rattle.list_lemmas.proofs.Distinct.{AreApart, one_place}
+use Rattle.list_lemmas.proofs.Each.{all_append, all_at}
+use Rattle.list_lemmas.proofs.Maps.{slice_get-mapped}
+use Rattle.paje_lines.proofs.DistinctItems.{distinct_all, distinct_apart}
 use Rattle.paje_print.specs.Canonical.{function_entered_by, functions_called}
 use Rattle.paje_print.specs.Generated.{kernel_of, bundles_on, kernels_called, functions_generated}
 use Rattle.paje_print.specs.Generated.{generated_stream, trace_of_bundles}
 use Rattle.paje_print.proofs.GeneratedDistinct.{different, different-filter, different-few, number_in}
 use Rattle.paje_print.proofs.GeneratedDistinct.{numbers-different}
-use Rattle.paje_print.proofs.GeneratedLists.{mapped}
 use Rattle.paje_print.proofs.GeneratedStreams.{events_on}
 use Rattle.paje_print.proofs.GeneratedTimes.{kernel-below}
 
@@ -38,7 +39,7 @@ each-kernel seed (n ∷ ns) = (kernel-below seed n, each-kernel seed ns)
 
 all-kernels : (seed count : ℕ) (tracks : List ℕ) → AllByRecursion IsKernel (kernels_of seed count tracks)
 all-kernels seed count [] = tt
-all-kernels seed count (track ∷ tracks) = all_joined IsKernel (kernels_on seed count track)
+all-kernels seed count (track ∷ tracks) = all_append IsKernel (kernels_on seed count track)
     (kernels_of seed count tracks) (each-kernel seed (bundles_on track count)) (all-kernels seed count tracks)
 
 pub kernels-few : (seed count : ℕ) → length (kernels_called seed count) ≤ 8
@@ -62,17 +63,17 @@ texts-apart : (kernels : List ℕ) → AllByRecursion IsKernel kernels → AreAp
     (text : List ℕ) → slice_get (map kernel_text kernels) i ≡ Some text
     → slice_get (map kernel_text kernels) j ≡ Some text → i ≡ j
 texts-apart kernels small apart i j text at other =
-    let here = mapped kernel_text kernels i text at in
-    let there = mapped kernel_text kernels j text other in
+    let here = slice_get-mapped kernel_text kernels i text at in
+    let there = slice_get-mapped kernel_text kernels j text other in
     let same : here.0 ≡ there.0 = kernel_text-apart here.0 there.0
-    (found_has IsKernel kernels i here.0 small here.1) (found_has IsKernel kernels j there.0 small there.1)
+    (all_at IsKernel kernels i here.0 small here.1) (all_at IsKernel kernels j there.0 small there.1)
     (here.2 ∙ sym there.2) in
     one_place nat_eq Decides-eqb kernels apart i j here.0 here.1 (there.1 ∙ ap (λ k. Some k) (sym same))
 
 not_work : (kernels : List ℕ) (k : ℕ) (text : List ℕ) → Some (codes "work") ≡ Some text
     → slice_get (map kernel_text kernels) k ≡ Some text → ⊥
 not_work kernels k text is at =
-    let there = mapped kernel_text kernels k text at in
+    let there = slice_get-mapped kernel_text kernels k text at in
     let first : get_or (kernel_text there.0) 0 0 ≡ get_or (codes "work") 0 0 =
     ap (λ bytes. get_or bytes 0 0) (there.2 ∙ sym (same_Some (codes "work") text is)) in
     absurd (omega (arith, first))

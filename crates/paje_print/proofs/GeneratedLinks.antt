@@ -5,12 +5,13 @@ use Rattle.std.specs.List.{AllByRecursion, flat_map, range_with_len}
 use Rattle.std.proofs.lemmas.Bool.{cond_both}
 use Rattle.std.proofs.lemmas.List.{length-append}
 use Rattle.std.proofs.lemmas.List.FromFn.{length-range_with_len}
+use Rattle.list_lemmas.proofs.Each.{all_append, all_flat_map, all_map}
+use Rattle.list_lemmas.proofs.Ranges.{all_range}
+use Rattle.list_lemmas.proofs.Sums.{greatest_is}
 use Rattle.trace_base.specs.declared.messages.LinkEvent.{LinkEvent}
-use Rattle.paje_legal.proofs.Lists.{all_joined, each_below, greatest_within}
 use Rattle.paje_print.specs.Canonical.{HasCanonicalSize, LinksExisting, last_moments}
 use Rattle.paje_print.specs.Generated.{kernel_of, track_of_bundle, rank_of_bundle, bundle_start, bundle_end}
 use Rattle.paje_print.specs.Generated.{link_end, bundle_links, generated_end, trace_of_bundles}
-use Rattle.paje_print.proofs.GeneratedLists.{all_map, all_range, all_flat_map}
 use Rattle.paje_print.proofs.GeneratedNames.{names_made, ranks_made, each_rank, length-containers}
 use Rattle.paje_print.proofs.GeneratedTimes.{kernel-below, bundle_end-in_time}
 
@@ -72,20 +73,11 @@ links-in_time seed count = each_link seed count (λ l. l.time ≤ generated_end 
     (λ n few. omega (arith, bundle_end-in_time seed count n few))
     (λ n few. bundle_end-in_time seed count n few)
 
--- the greatest of a list that holds a limit of its numbers
-greatest-is : (limit : ℕ) (moments : List ℕ) → AllByRecursion (λ moment. moment ≤ limit) (limit ∷ moments)
-    → limit ≡ fold max 0 (limit ∷ moments)
-greatest-is limit moments within =
-    let least : limit ≤ fold max 0 (limit ∷ moments) = (each_below 0 (limit ∷ moments)).0 in
-    let most : fold max 0 (limit ∷ moments) ≤ limit =
-    greatest_within 0 limit (limit ∷ moments) (omega arith) within in
-    omega (arith, least, most)
-
 moments-within : (seed count : ℕ) → AllByRecursion (λ moment. moment ≤ generated_end seed count)
     (last_moments (trace_of_bundles seed count))
 moments-within seed count =
     let end : ℕ = generated_end seed count in
-    all_joined (λ moment. moment ≤ end) (map (λ c. c.end) (ranks_made end))
+    all_append (λ moment. moment ≤ end) (map (λ c. c.end) (ranks_made end))
     (map (λ l. l.time) (links_of seed count))
     (all_map (λ moment. moment ≤ end) (λ c. c.end) (ranks_made end)
     (each_rank end (λ c. c.end ≤ end) (λ rank low. omega arith)))
@@ -94,5 +86,5 @@ moments-within seed count =
 pub end-is : (seed count : ℕ)
     → generated_end seed count ≡ fold max 0 (last_moments (trace_of_bundles seed count))
 end-is seed count =
-    greatest-is (generated_end seed count) (drop 1 (last_moments (trace_of_bundles seed count)))
+    greatest_is (generated_end seed count) (drop 1 (last_moments (trace_of_bundles seed count)))
     (moments-within seed count)

@@ -5,6 +5,9 @@ use Rattle.std.specs.Prelude.{decimal}
 use Rattle.std.specs.List.{AllByRecursion, range_with_len, zip}
 use Rattle.std.specs.Option.{option_map}
 use Rattle.std.proofs.lemmas.Option.{slice_get-map}
+use Rattle.list_lemmas.proofs.Each.{all_map, all_zipped}
+use Rattle.list_lemmas.proofs.Maps.{slice_get-mapped}
+use Rattle.list_lemmas.proofs.Ranges.{all_range, range_at, range_get-first}
 use Rattle.trace_base.specs.Info.{NamesExisting}
 use Rattle.trace_base.specs.declared.names.Container.{Container}
 use Rattle.trace_base.specs.declared.names.Track.{Track}
@@ -13,7 +16,6 @@ use Rattle.trace_base.specs.declared.stream.TrackStream.{TrackStream}
 use Rattle.paje_print.specs.Canonical.{IsBelowRoot, StartsBeforeItsEnd, SpansItsContainer}
 use Rattle.paje_print.specs.Generated.{generated_end, generated_stream, generated_track, generated_container}
 use Rattle.paje_print.specs.Generated.{generated_containers, trace_of_bundles}
-use Rattle.paje_print.proofs.GeneratedLists.{all_map, all_range, all_zipped, range-get, range-at, mapped}
 
 abbrev pub names_made : ℕ → ℕ → TraceNames
 names_made seed count = (trace_of_bundles seed count).names
@@ -44,7 +46,7 @@ rank-at end rank low =
     let next : rank + 1 ≡ suc rank = omega arith in
     ap (λ k. slice_get (generated_containers end) k) next
     ∙ (slice_get-map (rank_made end) (range_with_len 0 64) rank
-    ∙ ap (option_map (rank_made end)) (range-get 64 rank low))
+    ∙ ap (option_map (rank_made end)) (range_get-first 64 rank low))
 
 -- ---- tracks, and their streams
 
@@ -83,8 +85,8 @@ tracks-below_root = each_track IsBelowRoot (λ track low. omega arith)
 
 track-of : (i : ℕ) (track : Track) → slice_get tracks_made i ≡ Some track → generated_track i ≡ track
 track-of i track at =
-    let there = mapped generated_track (range_with_len 0 128) i track at in
-    ap generated_track (sym (range-at 128 i there.0 there.1)) ∙ there.2
+    let there = slice_get-mapped generated_track (range_with_len 0 128) i track at in
+    ap generated_track (sym (range_at 128 i there.0 there.1)) ∙ there.2
 
 pub tracks-apart : (i j : ℕ) (track : Track) → slice_get tracks_made i ≡ Some track
     → slice_get tracks_made j ≡ Some track → i ≡ j

@@ -1,9 +1,11 @@
 -- The parts of the generated trace, from what is kept of its bundles.
-use Rattle.std.proofs.Common.{◌≡◌, ℕ, ◌+◌, ◌≤◌, ◌/◌, List, [], ◌∷◌, ◌++◌, length, fold, map, max, nat_eq}
-use Rattle.std.proofs.Common.{eqb, slice_index, refl, ap, sym, ◌∙◌, arith}
-use Rattle.std.specs.List.{AllByRecursion, flat_map, range_with_len}
+use Rattle.std.proofs.Common.{◌≡◌, ℕ, ◌+◌, ◌≤◌, ◌/◌, List, length, fold, map, max, nat_eq}
+use Rattle.std.proofs.Common.{eqb, slice_index, ap, sym, ◌∙◌, arith}
+use Rattle.std.specs.List.{flat_map, range_with_len}
 use Rattle.std.proofs.lemmas.List.FromFn.{length-map-range_with_len}
-use Rattle.trace_base.proofs.Order.{all_filter}
+use Rattle.list_lemmas.proofs.Each.{all_filter}
+use Rattle.list_lemmas.proofs.Maps.{flat_map_agree, map_agree_all}
+use Rattle.list_lemmas.proofs.Ranges.{all_range}
 use Rattle.trace_base.specs.declared.messages.LinkEvent.{LinkEvent}
 use Rattle.trace_base.specs.declared.names.TraceNames.{TraceNames}
 use Rattle.trace_base.specs.declared.stream.TrackStream.{TrackStream}
@@ -14,7 +16,6 @@ use Rattle.paje_print.specs.Generated.{bundle_links, bundles_on, generated_end, 
 use Rattle.paje_print.specs.Generated.{kernel_of, kernels_called, trace_of_bundles, track_of_bundle}
 use Rattle.paje_print.specs.declared.bundles.Bundles.{Bundles}
 use Rattle.paje_print.proofs.GeneratedFunctions.{kernels-few}
-use Rattle.paje_print.proofs.GeneratedLists.{all_range}
 use Rattle.paje_print.proofs.GeneratedTimes.{end-within}
 use Rattle.paje_print.proofs.StreamSteps.{kernel_read}
 
@@ -38,22 +39,12 @@ kernels_fit seed count b kernels are same few = omega (arith, few, kernel_count 
 pub bundle_limit : (size : ℕ) → size ≤ 1000000 → size / 4 ≤ 250000
 bundle_limit size few = omega (arith, few)
 
-map_agree : (f g : ℕ → ℕ) (xs : List ℕ) → AllByRecursion (λ x. f x ≡ g x) xs → map f xs ≡ map g xs
-map_agree f g [] all = refl
-map_agree f g (x ∷ xs) all = ap (λ (y : ℕ). y ∷ map f xs) all.0 ∙ ap (λ (ys : List ℕ). g x ∷ ys)
-    (map_agree f g xs all.1)
-
-flat_agree : (f g : ℕ → List ℕ) (xs : List ℕ) → ((x : ℕ) → f x ≡ g x) → flat_map f xs ≡ flat_map g xs
-flat_agree f g [] agree = refl
-flat_agree f g (x ∷ xs) agree = ap (λ (ys : List ℕ). ys ++ flat_map f xs) (agree x)
-    ∙ ap (λ (ys : List ℕ). g x ++ ys) (flat_agree f g xs agree)
-
 read_on : (seed track : ℕ) (kernels : List ℕ) → AreKernels seed kernels
     → map (slice_index kernels) (bundles_on track (length kernels))
     ≡ map (kernel_of seed) (bundles_on track (length kernels))
 read_on seed track kernels are =
     let count : ℕ = length kernels in
-    map_agree (slice_index kernels) (kernel_of seed) (bundles_on track count)
+    map_agree_all (slice_index kernels) (kernel_of seed) (bundles_on track count)
     (all_filter (λ n. slice_index kernels n ≡ kernel_of seed n) (λ n. eqb (track_of_bundle n) track)
     (range_with_len 0 count) (all_range (λ n. slice_index kernels n ≡ kernel_of seed n) count
     (λ n small. kernel_read seed n kernels are small)))
@@ -61,7 +52,7 @@ read_on seed track kernels are =
 called_over : (seed : ℕ) (kernels tracks : List ℕ) → AreKernels seed kernels → distinct_by nat_eq
     (flat_map (λ track. map (slice_index kernels) (bundles_on track (length kernels))) tracks)
     ≡ distinct_by nat_eq (flat_map (λ track. map (kernel_of seed) (bundles_on track (length kernels))) tracks)
-called_over seed kernels tracks are = ap (distinct_by nat_eq) (flat_agree
+called_over seed kernels tracks are = ap (distinct_by nat_eq) (flat_map_agree
     (λ track. map (slice_index kernels) (bundles_on track (length kernels)))
     (λ track. map (kernel_of seed) (bundles_on track (length kernels))) tracks
     (λ track. read_on seed track kernels are))

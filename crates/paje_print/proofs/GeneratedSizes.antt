@@ -10,8 +10,8 @@ use Rattle.std.proofs.lemmas.Fmt.{length-decimal-le}
 use Rattle.std.proofs.lemmas.List.{length-replicate}
 use Rattle.std.proofs.lemmas.List.Concat.{flat_map-append}
 use Rattle.std.proofs.lemmas.Nat.{div_below, mod_below}
+use Rattle.list_lemmas.proofs.Each.{all_append}
 use Rattle.trace_base.specs.declared.limits.TheConstants.{MAX_TRACE_LINE}
-use Rattle.paje_legal.proofs.Lists.{all_joined}
 use Rattle.paje_print.specs.Canonical.{FitsOnLine}
 use Rattle.paje_print.specs.WrittenEvents.{definitions_written}
 use Rattle.paje_print.specs.WrittenNumbers.{container_alias, seconds_text, zero_padded}
@@ -66,7 +66,7 @@ within-later m n lines more within = record {
 pub within-append : (m n : ℕ) (xs ys : List WrittenLine) → AreWithin m xs → AreWithin n ys
     → AreWithin (m + n) (xs ++ ys)
 within-append m n xs ys first later = record {
-  fit = all_joined FitsOnLine xs ys first.fit later.fit;
+  fit = all_append FitsOnLine xs ys first.fit later.fit;
   together = omega (
     arith,
     ap length (flat_map-append ended_line xs ys),

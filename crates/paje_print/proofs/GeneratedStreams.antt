@@ -1,17 +1,18 @@
 -- The streams of the generated trace are legal.
 use Rattle.std.proofs.Common.{◌≡◌, ℕ, ◌+◌, ◌*◌, ◌<◌, ◌≤◌, suc, List, [], ◌∷◌, length}
-use Rattle.std.proofs.Common.{filter, refl, sym, subst, arith, nat_eq, Bool}
+use Rattle.std.proofs.Common.{filter, refl, sym, subst, arith, nat_eq}
 use Rattle.std.specs.List.{AllByRecursion, flat_map, position_or_len}
 use Rattle.std.proofs.lemmas.List.{append-nil}
 use Rattle.std.proofs.lemmas.List.Elements.{All-from_recursion}
-use Rattle.std.proofs.lemmas.List.Sums.{prefix_len-le-length, length-filter, count_by-le-length}
+use Rattle.std.proofs.lemmas.List.Sums.{prefix_len-le-length}
+use Rattle.list_lemmas.proofs.Each.{all_append}
+use Rattle.list_lemmas.proofs.Filters.{length-filter_le}
+use Rattle.list_lemmas.proofs.Maps.{flat_map-push}
 use Rattle.trace_base.specs.Stream.{is_enter, IsLegal}
 use Rattle.trace_base.specs.declared.stream.Event.{Event}
-use Rattle.paje_legal.proofs.Lists.{all_joined}
 use Rattle.paje_legal.proofs.StreamRuns.{Runs, runs-append, IsNumbered, IsLegal-from_runs}
 use Rattle.paje_print.specs.Generated.{kernel_of, track_of_bundle, bundles_on, clock_behind, bundle_end}
 use Rattle.paje_print.specs.Generated.{bundle_events, generated_end, generated_stream, kernels_called}
-use Rattle.paje_print.proofs.GeneratedLists.{flat_map-push}
 use Rattle.paje_print.proofs.GeneratedTimes.{each_bundle, clock-push, clock-rises, clock-in_time, end-within}
 use Rattle.paje_print.proofs.GeneratedTimes.{bundles-within}
 
@@ -86,7 +87,7 @@ events-numbered : (seed : ℕ) (kernels bundles : List ℕ)
     → AllByRecursion (IsNumbered (length kernels + 2)) (events_on seed kernels bundles)
 events-numbered seed kernels [] = tt
 events-numbered seed kernels (n ∷ ns) =
-    all_joined (IsNumbered (length kernels + 2)) (bundle_events seed kernels n) (events_on seed kernels ns)
+    all_append (IsNumbered (length kernels + 2)) (bundle_events seed kernels n) (events_on seed kernels ns)
     (event-numbered seed kernels n) (events-numbered seed kernels ns)
 
 -- ---- how many there are
@@ -98,15 +99,12 @@ length-events seed kernels (n ∷ ns) = omega (arith, length-events seed kernels
 
 -- ---- legal
 
-length-filter-le : {X : Type 0} (p : X → Bool) (xs : List X) → length (filter p xs) ≤ length xs
-length-filter-le p xs = omega (arith, length-filter p xs, count_by-le-length p xs)
-
 pub stream-legal : (seed count track : ℕ) → track < 128 → count ≤ 250000
     → length (kernels_called seed count) ≤ 8 → IsLegal (generated_stream seed count track)
 stream-legal seed count track small few kinds =
     let kernels : List ℕ = kernels_called seed count in
     let events : List Event = (generated_stream seed count track).events in
-    let entered : length (filter is_enter events) ≤ length events = length-filter-le is_enter events in
+    let entered : length (filter is_enter events) ≤ length events = length-filter_le is_enter events in
     let all = length-events seed kernels (bundles_on track count) in
     let bundles = bundles-within track count small few in
     IsLegal-from_runs (generated_stream seed count track) (length kernels + 2)

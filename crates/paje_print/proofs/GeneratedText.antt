@@ -4,6 +4,8 @@ use Rattle.std.proofs.Common.{refl, arith, length-append}
 use Rattle.std.specs.Prelude.{decimal}
 use Rattle.std.specs.List.{AllByRecursion, enumerate_from, flat_map, range_with_len, zip}
 use Rattle.std.proofs.lemmas.List.FromFn.{length-range_with_len}
+use Rattle.list_lemmas.proofs.Each.{all_mapped}
+use Rattle.list_lemmas.proofs.Maps.{enumerate-range_all, length-zipped}
 use Rattle.trace_base.specs.Stream.{time_of}
 use Rattle.trace_base.specs.declared.messages.LinkEvent.{LinkEvent}
 use Rattle.trace_base.specs.declared.names.Container.{Container}
@@ -11,8 +13,8 @@ use Rattle.trace_base.specs.declared.names.Track.{Track}
 use Rattle.trace_base.specs.declared.stream.Event.{Event}
 use Rattle.trace_base.specs.declared.stream.Event.TheVariants.{Enter, Leave}
 use Rattle.trace_base.specs.declared.stream.TrackStream.{TrackStream}
-use Rattle.trace_base.proofs.Order.{all_mapped}
 use Rattle.paje_legal.proofs.StreamRuns.{Runs}
+use Rattle.paje_legal.proofs.StreamRuns.{runs-order}
 use Rattle.paje_print.specs.CanonicalText.{process_type_line, state_type_line, link_type_line, create_line}
 use Rattle.paje_print.specs.CanonicalText.{destroy_line, reset_line, state_line, track_lines, link_line}
 use Rattle.paje_print.specs.CanonicalText.{canonical_lines}
@@ -25,7 +27,6 @@ use Rattle.paje_print.proofs.GeneratedLines.{functions-short, state_type-within,
 use Rattle.paje_print.proofs.GeneratedLines.{link-within}
 use Rattle.paje_print.proofs.GeneratedLines.{create-within, destroy-within, reset-within, event-within}
 use Rattle.paje_print.proofs.GeneratedLinks.{message_start, message_end, links_of, each_link, links-few}
-use Rattle.paje_print.proofs.GeneratedLists.{all_enumerated, length-zipped}
 use Rattle.paje_print.proofs.GeneratedNames.{rank_made, ranks_made, tracks_made, streams_made, each_pair}
 use Rattle.paje_print.proofs.GeneratedSizes.{IsWithin, AreWithin, within-none, within-later, within-append}
 use Rattle.paje_print.proofs.GeneratedSizes.{within-cons, within-map, within-flat_map, definitions-within}
@@ -34,13 +35,6 @@ use Rattle.paje_print.proofs.GeneratedStreams.{stream-runs, length-events}
 use Rattle.paje_print.proofs.GeneratedTimes.{kernel-below, bundles-within, bundle_end-in_time, end-within}
 
 -- ---- tracks: 1954 bundles at most, each with four lines of at most 40 bytes
-
-runs-order : (es : List Event) (a n b m : ℕ) → Runs a n es b m → a ≤ b
-runs-order [] a n b m (order, same) = order
-runs-order (Enter f t ∷ es) a n b m (order, room, later) =
-    omega (arith, order, runs-order es t (n + 1) b m later)
-runs-order (Leave t ∷ es) a n b m (order, some, later) =
-    omega (arith, order, runs-order es t (n - 1) b m later)
 
 runs-times : (es : List Event) (a n b m : ℕ) → Runs a n es b m → AllByRecursion (λ e. time_of e ≤ b) es
 runs-times [] a n b m runs = tt
@@ -146,7 +140,7 @@ creates-within end =
     let ranks : List (ℕ × Container) = ranks_placed end in
     within-later (length ranks * 50) 3200 (map create_line ranks) (omega (arith, length-ranks_placed end))
     (within-map 50 create_line ranks (omega arith)
-    (all_enumerated (λ p. IsWithin 50 (create_line p)) 1 64 (rank_made end) (λ k low.
+    (enumerate-range_all (λ p. IsWithin 50 (create_line p)) 1 64 (rank_made end) (λ k low.
     let digits = length-decimal_two k (omega (arith, low)) in
     create-within (1 + k) (rank_made end k) (omega (arith, low)) (omega arith)
     (omega (arith, length-append (codes "rank ") (decimal k), digits)))))
@@ -156,7 +150,7 @@ destroys-within end early =
     let ranks : List (ℕ × Container) = ranks_placed end in
     within-later (length ranks * 50) 3200 (map destroy_line ranks) (omega (arith, length-ranks_placed end))
     (within-map 50 destroy_line ranks (omega arith)
-    (all_enumerated (λ p. IsWithin 50 (destroy_line p)) 1 64 (rank_made end)
+    (enumerate-range_all (λ p. IsWithin 50 (destroy_line p)) 1 64 (rank_made end)
     (λ k low. destroy-within (1 + k) (rank_made end k) (omega (arith, low)) early)))
 
 -- ---- all of them

@@ -9,10 +9,11 @@ use Rattle.std.proofs.lemmas.List.Elements.{filter-append, All-from_recursion}
 use Rattle.std.proofs.lemmas.List.Sums.{sum_by_push, sum_by-le}
 use Rattle.std.proofs.lemmas.List.FromFn.{get_or-map-range_with_len, length-map-range_with_len}
 use Rattle.std.proofs.lemmas.Nat.{div_below, mod_below, pow_pos}
-use Rattle.paje_legal.proofs.Lists.{each_below, greatest_within}
+use Rattle.list_lemmas.proofs.Each.{all_map}
+use Rattle.list_lemmas.proofs.Ranges.{all_range, range_with_len-push}
+use Rattle.list_lemmas.proofs.Sums.{each_below, greatest_within}
 use Rattle.paje_print.specs.Generated.{random_after, kernel_of, track_of_bundle, bundles_on, kernel_time}
 use Rattle.paje_print.specs.Generated.{bundle_time, clock_behind, bundle_end, generated_end}
-use Rattle.paje_print.proofs.GeneratedLists.{range-push, all_range, all_map}
 
 -- ---- kernels
 
@@ -31,7 +32,7 @@ kernel_time-within seed bundle = omega (arith, kernel-below seed bundle)
 
 bundles-push : (track n : ℕ) → bundles_on track (suc n)
     ≡ bundles_on track n ++ cond (eqb (track_of_bundle n) track) (n ∷ []) []
-bundles-push track n = ap (filter (λ bundle. eqb (track_of_bundle bundle) track)) (range-push n)
+bundles-push track n = ap (filter (λ bundle. eqb (track_of_bundle bundle) track)) (range_with_len-push n)
     ∙ filter-append (λ bundle. eqb (track_of_bundle bundle) track) (range_with_len 0 n) (n ∷ [])
 
 pub bundles-push_on : (track n : ℕ) → track_of_bundle n ≡ track → bundles_on track (suc n)

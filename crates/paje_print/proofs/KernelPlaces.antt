@@ -1,17 +1,19 @@
 -- The kernels of a track's bundles, and those that are called, one more.
 use Rattle.std.proofs.Common.{◌≡◌, ℕ, ◌+◌, ◌*◌, ◌-◌, ◌/◌, ◌<◌, ◌≤◌, zero, suc, List, [], ◌∷◌, ◌++◌, length}
-use Rattle.std.proofs.Common.{Bool, true, false, not, ◌||◌, cond, map, nat_eq, nat_lt}
+use Rattle.std.proofs.Common.{Bool, true, false, cond, map, nat_eq, nat_lt}
 use Rattle.std.proofs.Common.{refl, ap, sym, subst, ◌∙◌, arith, inl, inr}
-use Rattle.std.specs.List.{AllByRecursion, flat_map, list_any, position_or_len, range_with_len}
-use Rattle.std.proofs.lemmas.Bool.{cases_eq, eqb-true, le-ltb, lt-ltb, or_cases, true≢false}
-use Rattle.std.proofs.lemmas.Bool.Decides.{Decides-eqb, nat_tests}
+use Rattle.std.specs.List.{flat_map, list_any, position_or_len, range_with_len}
+use Rattle.std.proofs.lemmas.Bool.{cases_eq, le-ltb, lt-ltb}
+use Rattle.std.proofs.lemmas.Bool.Decides.{Decides-eqb}
 use Rattle.std.proofs.lemmas.List.{append-nil, map-append}
 use Rattle.std.proofs.lemmas.List.FromFn.{map-range_with_len_more}
+use Rattle.list_lemmas.proofs.Found.{any_place_within}
+use Rattle.list_lemmas.proofs.Maps.{flat_map-push}
+use Rattle.list_lemmas.proofs.Places.{found_alike}
 use Rattle.paje_lines.proofs.DifferentTexts.{different-push}
-use Rattle.paje_legal.proofs.DistinctItems.{new_among}
+use Rattle.paje_lines.proofs.DistinctItems.{new_among}
 use Rattle.paje_print.specs.Generated.{bundles_on, track_of_bundle}
-use Rattle.paje_print.proofs.GeneratedDistinct.{StandsIn, different, each-stands}
-use Rattle.paje_print.proofs.GeneratedLists.{flat_map-push}
+use Rattle.paje_print.proofs.GeneratedDistinct.{different, each-stands}
 use Rattle.paje_print.proofs.GeneratedTimes.{bundles-push_off, bundles-push_on}
 
 -- ---- a track's bundles
@@ -75,26 +77,6 @@ flat_of_track f track i = sym (ap (flat_map f) (next_of_track track i)
 
 -- ---- the kernels that are called, one more
 
-both_more : (a b : ℕ) → nat_lt a b ≡ nat_lt (1 + a) (suc b)
-both_more a b = grind (arith, nat_tests)
-
-any_place : (p : ℕ → Bool) (xs : List ℕ) → list_any p xs ≡ nat_lt (position_or_len p xs) (length xs)
-any_place p [] = refl
-any_place p (x ∷ xs) = by (p x) (any_place p xs)
-  where
-    by : (b : Bool) → list_any p xs ≡ nat_lt (position_or_len p xs) (length xs)
-        → (b || list_any p xs) ≡ nat_lt (cond (not b) (1 + position_or_len p xs) 0) (suc (length xs))
-    by true later = sym (lt-ltb 0 (suc (length xs)) (omega arith))
-    by false later = later ∙ both_more (position_or_len p xs) (length xs)
-
-found_alike : (y : ℕ) (zs xs : List ℕ) → AllByRecursion (StandsIn zs) xs
-    → list_any (λ x. nat_eq x y) xs ≡ true → StandsIn zs y
-found_alike y zs [] all found = absurd (true≢false (sym found))
-found_alike y zs (x ∷ xs) all found = elim (or_cases (nat_eq x y) (list_any (λ x. nat_eq x y) xs) found) [
-  | inl here ↦ subst (StandsIn zs) (eqb-true x y here) all.0
-  | inr later ↦ found_alike y zs xs all.1 later
-]
-
 -- a number is among the different ones where it stands in the list
 any_alike : (xs : List ℕ) (y : ℕ) → list_any (λ x. nat_eq x y) xs ≡ list_any (nat_eq y) (different xs)
 any_alike xs y = by (list_any (λ x. nat_eq x y) xs) refl
@@ -110,7 +92,7 @@ stands_there called y = nat_lt (position_or_len (nat_eq y) called) (length calle
 called_push : (xs : List ℕ) (y : ℕ)
     → different (xs ++ y ∷ []) ≡ different xs ++ cond (stands_there (different xs) y) [] (y ∷ [])
 called_push xs y = different-push nat_eq xs y ∙ ap (λ b. different xs ++ cond b [] (y ∷ []))
-    (any_alike xs y ∙ any_place (nat_eq y) (different xs))
+    (any_alike xs y ∙ any_place_within (nat_eq y) (different xs))
 
 called_by : (called xs : List ℕ) (y : ℕ) (b : Bool) → stands_there called y ≡ b → called ≡ different xs
     → called ++ cond b [] (y ∷ []) ≡ different (xs ++ y ∷ [])

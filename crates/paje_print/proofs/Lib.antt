@@ -6,7 +6,6 @@ pub mod GeneratedFunctions
 pub mod GeneratedLimits
 pub mod GeneratedLines
 pub mod GeneratedLinks
-pub mod GeneratedLists
 pub mod GeneratedNames
 pub mod GeneratedParts
 pub mod GeneratedQuotes
@@ -16,7 +15,6 @@ pub mod GeneratedText
 pub mod GeneratedTimes
 pub mod KernelPlaces
 pub mod NineDigits
-pub mod RangesLeft
 pub mod SmallCanonical
 pub mod StreamSteps
 pub mod WholeText

@@ -11,8 +11,6 @@ mod lines;
 mod names;
 mod random;
 mod streams;
-#[cfg(test)]
-mod tests;
 mod text_parts;
 mod writer;
 

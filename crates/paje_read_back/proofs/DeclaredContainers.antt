@@ -21,7 +21,7 @@ use Rattle.paje_lines.specs.Containers.{DeclaredContainer, container_entities, c
 use Rattle.paje_lines.specs.Containers.{containers_in, created_by}
 use Rattle.paje_lines.specs.Reasons.{container_reason, event_reason, new_reason, type_reason}
 use Rattle.paje_print.specs.WrittenNumbers.{container_alias}
-use Rattle.paje_legal.proofs.Containers.{containers-more}
+use Rattle.paje_lines.proofs.Containers.{containers-more}
 use Rattle.paje_read_back.specs.ToldLines.{create_told}
 use Rattle.paje_read_back.proofs.DeclaredLines.{NoneIs, picked-same}
 use Rattle.paje_read_back.proofs.DeclaredTypes.{TypesAre, of-sort, process-sort}

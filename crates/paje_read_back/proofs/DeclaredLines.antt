@@ -1,9 +1,9 @@
 -- Lines that are told from the items of a list, one behind another.
-use Rattle.std.proofs.Common.{◌≡◌, ℕ, ◌+◌, ◌<◌, List, [], ◌∷◌, ◌++◌, find, map, filter, filter_map}
-use Rattle.std.proofs.Common.{length, slice_get, Bool, false, cond, Option, Some, None, refl, sym, ◌∙◌, ap}
-use Rattle.std.proofs.Common.{subst, arith}
-use Rattle.std.specs.List.{AllByRecursion, cons_option, enumerate_from}
-use Rattle.std.proofs.lemmas.List.{append-nil, append_assoc, length-append}
+use Rattle.std.proofs.Common.{◌≡◌, ℕ, ◌+◌, List, [], ◌∷◌, ◌++◌, find, map, filter, filter_map}
+use Rattle.std.proofs.Common.{Bool, false, cond, Option, Some, None, refl, sym, ◌∙◌, ap}
+use Rattle.std.proofs.Common.{subst}
+use Rattle.std.specs.List.{AllByRecursion, cons_option}
+use Rattle.std.proofs.lemmas.List.{append-nil, append_assoc}
 use Rattle.std.proofs.lemmas.List.Elements.{filter-append, filter_map-append}
 use Rattle.paje_defs.specs.Refusals.{Placed, placed, placed_behind}
 use Rattle.paje_lines.specs.EventLine.{EventLine}
@@ -45,44 +45,6 @@ pub walk : {A : Type 0} (told : A → Unnumbered) (P : List A → List EventLine
     × P all (before ++ from n (map told all))
 walk told P R all step n before none = walk_from told P R all step [] all n before refl none
 
--- ---- an item of a list
-
-pub item-has : {A : Type 0} (P : A → Type 0) (done left : List A) (a : A) (all : List A)
-    → done ++ a ∷ left ≡ all → AllByRecursion P all → P a
-item-has {A = A} P done left a all is each = by done (subst (AllByRecursion P) (sym is) each)
-  where
-    by : (done : List A) → AllByRecursion P (done ++ a ∷ left) → P a
-    by [] each = each.0
-    by (d ∷ done) each = by done each.1
-
-pub item-within : {A : Type 0} (done left : List A) (a : A) (all : List A) → done ++ a ∷ left ≡ all
-    → length done < length all
-item-within done left a all is =
-    let count = ap length is in
-    let joined = length-append done (a ∷ left) in
-    omega (arith, count, joined)
-
--- ---- numbered items
-
-pub numbered-item : {X : Type 0} (done left : List (ℕ × X)) (p : ℕ × X) (m : ℕ) (xs : List X)
-    → done ++ p ∷ left ≡ enumerate_from m xs
-    → (p.0 ≡ m + length done) × (slice_get xs (length done) ≡ Some p.1)
-numbered-item [] left p m [] is = absurd (cc)
-numbered-item [] left p m (x ∷ xs) is =
-    let same : p ≡ (m, x) = cc in
-    (ap (λ q. q.0) same ∙ omega arith, ap (λ q. Some q.1) (sym same))
-numbered-item (d ∷ done) left p m [] is = absurd (cc)
-numbered-item (d ∷ done) left p m (x ∷ xs) is =
-    let rest : done ++ p ∷ left ≡ enumerate_from (m + 1) xs = cc in
-    let later = numbered-item done left p (m + 1) xs rest in
-    let at = later.0 in
-    (omega (arith, at), later.1)
-
-pub values-of-numbered : {X Y : Type 0} (f : X → Y) (m : ℕ) (xs : List X)
-    → map (λ (p : ℕ × X). f p.1) (enumerate_from m xs) ≡ map f xs
-values-of-numbered f m [] = refl
-values-of-numbered f m (x ∷ xs) = ap (λ ys. f x ∷ ys) (values-of-numbered f (m + 1) xs)
-
 -- ---- lists that lines add nothing to
 
 -- no line is one that passes
@@ -98,9 +60,6 @@ pub none-picked : (p : EventLine → Bool) (lines : List EventLine) → NoneIs p
 none-picked p [] none = refl
 none-picked p (l ∷ lines) none = ap (λ b. cond b (l ∷ filter p lines) (filter p lines)) none.0
     ∙ none-picked p lines none.1
-
-pub none-unless : {X : Type 0} (b : Bool) (o : Option X) → b ≡ false → cond b o None ≡ None
-none-unless b o never = ap (λ b. cond b o None) never
 
 -- a fact of each line tells nothing
 pub none-told : {Y : Type 0} (f : Placed EventLine → Option Y) (p : EventLine → Bool)

@@ -1,15 +1,18 @@
 -- The types that the lines of a canonical text declare, by the lines so far.
-use Rattle.std.proofs.Common.{◌≡◌, ℕ, zero, suc, ◌+◌, ◌<◌, ◌≤◌, ◌^◌, ◌||◌, List, [], ◌∷◌, ◌++◌, map, length}
+use Rattle.std.proofs.Common.{◌≡◌, ℕ, suc, ◌+◌, ◌<◌, ◌≤◌, ◌^◌, ◌||◌, List, [], ◌∷◌, ◌++◌, map, length}
 use Rattle.std.proofs.Common.{filter_map, slice_get, count_by, Bool, true, false, cond, not}
 use Rattle.std.proofs.Common.{Option, Some, None, refl, sym, ◌∙◌, ap, arith, codes}
 use Rattle.std.specs.List.{position_from, range_with_len}
 use Rattle.std.specs.Option.{option_map, option_and_then, option_or, option_to_list}
 use Rattle.std.specs.Str.{bytes_eq}
 use Rattle.std.proofs.lemmas.Bool.{true≢false, or_parts}
-use Rattle.std.proofs.lemmas.List.{append-nil, append_assoc, length-append, length-map, map-append}
-use Rattle.std.proofs.lemmas.List.FromFn.{length-map-range_with_len, map-range_with_len_more}
+use Rattle.std.proofs.lemmas.List.{append-nil, length-map, map-append}
+use Rattle.std.proofs.lemmas.List.FromFn.{length-map-range_with_len}
 use Rattle.std.proofs.lemmas.List.Sums.{length-filter, sum_by_push, sum_by-append}
 use Rattle.std.proofs.lemmas.Option.{slice_get-map}
+use Rattle.list_lemmas.proofs.Places.{from-joined, from_range-none}
+use Rattle.list_lemmas.proofs.Ranges.{two_ranges, two_ranges-first_get, two_ranges-first_more}
+use Rattle.list_lemmas.proofs.Ranges.{two_ranges-length, two_ranges-second_get, two_ranges-second_more}
 use Rattle.trace_base.specs.declared.limits.TheConstants.{MAX_TYPES}
 use Rattle.paje_defs.specs.declared.event_name.EventName.{EventName}
 use Rattle.paje_defs.specs.declared.event_name.EventName.TheVariants as events
@@ -31,54 +34,12 @@ use Rattle.paje_lines.specs.Reasons.{declared_types}
 use Rattle.paje_lines.specs.Reasons.{event_reason, new_type_reason, sort_reason}
 use Rattle.paje_lines.specs.Reasons.{type_reason}
 use Rattle.paje_print.specs.WrittenNumbers.{link_type_alias, state_type_alias}
-use Rattle.paje_legal.proofs.Lists.{get-left}
 use Rattle.paje_read_back.specs.ToldLines.{link_type_told, process_type_told, state_type_told}
 use Rattle.paje_read_back.proofs.DeclaredLines.{NoneIs, none-picked, none-weaker, told-same}
-use Rattle.paje_read_back.proofs.NamesPlaces.{alias-new, found-by_alias, from-joined, link_types-apart}
-use Rattle.paje_read_back.proofs.NamesPlaces.{range-finds, range-get, range-new, range-none}
+use Rattle.paje_read_back.proofs.NamesPlaces.{alias-new, found-by_alias, link_types-apart}
+use Rattle.paje_read_back.proofs.NamesPlaces.{range-finds, range-new}
 use Rattle.paje_read_back.proofs.NamesPlaces.{state_types-apart}
 use Rattle.paje_read_back.proofs.NoReasons.{all_none, none-new}
-
--- ---- two ranges, one behind the other
-
-abbrev two_ranges : {X : Type 0} → (ℕ → X) → (ℕ → X) → ℕ → ℕ → List X
-two_ranges f g i j = map f (range_with_len 0 i) ++ map g (range_with_len 0 j)
-
-first-more : {X : Type 0} (f g : ℕ → X) (i : ℕ) → two_ranges f g i 0 ++ f i ∷ [] ≡ two_ranges f g (i + 1) 0
-first-more f g i = ap (λ xs. xs ++ f i ∷ []) (append-nil (map f (range_with_len 0 i)))
-    ∙ (sym (map-range_with_len_more f 0 i i (omega arith))
-    ∙ sym (append-nil (map f (range_with_len 0 (i + 1)))))
-
-second-more : {X : Type 0} (f g : ℕ → X) (i j : ℕ)
-    → two_ranges f g i j ++ g j ∷ [] ≡ two_ranges f g i (j + 1)
-second-more f g i j = append_assoc (map f (range_with_len 0 i)) (map g (range_with_len 0 j)) (g j ∷ [])
-    ∙ ap (λ xs. map f (range_with_len 0 i) ++ xs) (sym (map-range_with_len_more g 0 j j (omega arith)))
-
-two_ranges-length : {X : Type 0} (f g : ℕ → X) (i j : ℕ) → length (two_ranges f g i j) ≡ i + j
-two_ranges-length f g i j =
-    let joined = length-append (map f (range_with_len 0 i)) (map g (range_with_len 0 j)) in
-    let first = length-map-range_with_len f 0 i in
-    let second = length-map-range_with_len g 0 j in
-    omega (arith, joined, first, second)
-
-first-get : {X : Type 0} (f g : ℕ → X) (i j k : ℕ) → k < i → slice_get (two_ranges f g i j) k ≡ Some (f k)
-first-get f g i j k within =
-    let count = length-map-range_with_len f 0 i in
-    get-left (map f (range_with_len 0 i)) (map g (range_with_len 0 j)) k (omega (arith, count, within))
-    ∙ (range-get f 0 i k within ∙ ap (λ n. Some (f n)) (omega arith))
-
-get-right : {X : Type 0} (xs ys : List X) (k at : ℕ) → length xs + k ≡ at → slice_get (xs ++ ys) at
-    ≡ slice_get ys k
-get-right [] ys k at is = ap (slice_get ys) (omega (arith, is))
-get-right (x ∷ xs) ys k zero is = absurd (omega (arith, is))
-get-right (x ∷ xs) ys k (suc at) is = get-right xs ys k at (omega (arith, is))
-
-second-get : {X : Type 0} (f g : ℕ → X) (i j k : ℕ) → k < j → slice_get (two_ranges f g i j) (i + k)
-    ≡ Some (g k)
-second-get f g i j k within =
-    let count = length-map-range_with_len f 0 i in
-    get-right (map f (range_with_len 0 i)) (map g (range_with_len 0 j)) k (i + k) (omega (arith, count))
-    ∙ (range-get g 0 j k within ∙ ap (λ n. Some (g n)) (omega arith))
 
 -- ---- the types so far
 
@@ -135,10 +96,10 @@ pub state-typed : (before : List EventLine) (i n : ℕ) (name : List ℕ) → Ty
     → TypesAre (before ++ state_type_told (i, name) n ∷ []) (i + 1) 0
 state-typed before i n name are = record {
   aliases = aliases-more before line d refl ∙ (ap (λ xs. xs ++ state_type_alias i ∷ []) are.aliases
-      ∙ ap (λ xs. codes "0" ∷ codes "P" ∷ xs) (first-more state_type_alias link_type_alias i));
+      ∙ ap (λ xs. codes "0" ∷ codes "P" ∷ xs) (two_ranges-first_more state_type_alias link_type_alias i));
   sorts = sorts-more before line d refl ∙ (ap (λ xs. xs ++ sorts.State (state_types before) ∷ []) are.sorts
       ∙ (ap (λ k. type_sorts i 0 ++ sorts.State k ∷ []) are.states
-      ∙ ap (λ xs. sorts.Container ∷ sorts.Container ∷ xs) (first-more sorts.State sorts.Link i)));
+      ∙ ap (λ xs. sorts.Container ∷ sorts.Container ∷ xs) (two_ranges-first_more sorts.State sorts.Link i)));
   states = states-more before line true refl ∙ ap (λ n. n + 1) are.states;
   links = links-more before line false refl ∙ ap (λ n. n + 0) are.links;
 }
@@ -153,10 +114,11 @@ pub link-typed : (before : List EventLine) (i j n : ℕ) (name : List ℕ) → T
     → TypesAre (before ++ link_type_told (j, name) n ∷ []) i (j + 1)
 link-typed before i j n name are = record {
   aliases = aliases-more before line d refl ∙ (ap (λ xs. xs ++ link_type_alias j ∷ []) are.aliases
-      ∙ ap (λ xs. codes "0" ∷ codes "P" ∷ xs) (second-more state_type_alias link_type_alias i j));
+      ∙ ap (λ xs. codes "0" ∷ codes "P" ∷ xs) (two_ranges-second_more state_type_alias link_type_alias i j));
   sorts = sorts-more before line d refl ∙ (ap (λ xs. xs ++ sorts.Link (link_types before) ∷ []) are.sorts
       ∙ (ap (λ k. type_sorts i j ++ sorts.Link k ∷ []) are.links
-      ∙ ap (λ xs. sorts.Container ∷ sorts.Container ∷ xs) (second-more sorts.State sorts.Link i j)));
+      ∙ ap (λ xs. sorts.Container ∷ sorts.Container ∷ xs) (two_ranges-second_more sorts.State sorts.Link i
+      j)));
   states = states-more before line false refl ∙ (ap (λ n. n + 0) are.states ∙ omega arith);
   links = links-more before line true refl ∙ ap (λ n. n + 1) are.links;
 }
@@ -244,7 +206,7 @@ state-sort before i j k are within below = sort-at before (state_type_alias k) i
     (2 + length (map state_type_alias (range_with_len 0 i))) (map link_type_alias (range_with_len 0 j))))
     (range-finds (2 ^ 64) state_type_alias state_types-apart 0 i k 2 (suc (suc k)) (omega arith)
     (omega (arith, within)) (omega (arith, below)) (omega arith)))
-    (first-get sorts.State sorts.Link i j k within)
+    (two_ranges-first_get sorts.State sorts.Link i j k within)
 
 pub link-sort : (before : List EventLine) (i j k : ℕ) → TypesAre before i j → k < j → j ≤ 2 ^ 64
     → option_map (λ t. t.sort) (type_named before (link_type_alias k)) ≡ Some (sorts.Link k)
@@ -255,10 +217,10 @@ link-sort before i j k are within below = sort-at before (link_type_alias k) i j
     (ap (λ n. 2 + n) (length-map-range_with_len state_type_alias 0 i))
     ∙ (ap (λ o. option_or o (position_from (bytes_eq (link_type_alias k)) (2 + i)
     (map link_type_alias (range_with_len 0 j))))
-    (range-none (bytes_eq (link_type_alias k)) state_type_alias 0 i 2 (λ m from below. refl))
+    (from_range-none (bytes_eq (link_type_alias k)) state_type_alias 0 i 2 (λ m from below. refl))
     ∙ range-finds (2 ^ 64) link_type_alias link_types-apart 0 j k (2 + i) (suc (suc (i + k))) (omega arith)
     (omega (arith, within)) (omega (arith, below)) (omega arith)))
-    (second-get sorts.State sorts.Link i j k within)
+    (two_ranges-second_get sorts.State sorts.Link i j k within)
 
 pub kind-found : (before : List EventLine) (i j k : ℕ) → TypesAre before i j → k < i → i ≤ 2 ^ 64
     → kind_named before (state_type_alias k) ≡ Some k
@@ -340,6 +302,6 @@ link_type-unrefused before i j n name are below =
         (ap (λ n. 2 + n) (length-map-range_with_len state_type_alias 0 i))
         ∙ (ap (λ o. option_or o (position_from (bytes_eq (link_type_alias j)) (2 + i)
         (map link_type_alias (range_with_len 0 j))))
-        (range-none (bytes_eq (link_type_alias j)) state_type_alias 0 i 2 (λ m from below. refl))
+        (from_range-none (bytes_eq (link_type_alias j)) state_type_alias 0 i 2 (λ m from below. refl))
         ∙ range-new (2 ^ 64) link_type_alias link_types-apart 0 j j (2 + i) (omega arith)
         (omega (arith, below)))

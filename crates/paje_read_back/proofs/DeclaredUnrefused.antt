@@ -5,6 +5,8 @@ use Rattle.std.specs.List.{AllByRecursion, enumerate_from}
 use Rattle.std.proofs.lemmas.List.{append_assoc, length_push, length-drop}
 use Rattle.std.proofs.lemmas.List.FromFn.{length-enumerate_from}
 use Rattle.std.proofs.lemmas.Option.{slice_get_within}
+use Rattle.list_lemmas.proofs.Each.{all_append}
+use Rattle.list_lemmas.proofs.Maps.{enumerate-item}
 use Rattle.trace_base.specs.declared.limits.TheConstants.{MAX_CONTAINERS, MAX_TYPES}
 use Rattle.trace_base.specs.declared.names.Container.{Container}
 use Rattle.trace_base.specs.declared.text.TraceText.{TraceText}
@@ -14,12 +16,11 @@ use Rattle.paje_lines.specs.Examples.{Unnumbered, from}
 use Rattle.paje_lines.specs.Reasons.{event_reason_at}
 use Rattle.paje_print.specs.Canonical.{IsCanonical}
 use Rattle.paje_print.specs.CanonicalText.{placed_containers}
-use Rattle.paje_legal.proofs.Lists.{all_joined}
 use Rattle.paje_read_back.specs.ToldLines.{containers_told, create_told, declarations_told, first_told}
 use Rattle.paje_read_back.specs.ToldLines.{link_type_told, process_type_told, state_type_told}
 use Rattle.paje_read_back.proofs.DeclaredContainers.{ContainersAre, container-created, containers-kept}
 use Rattle.paje_read_back.proofs.DeclaredContainers.{create-unrefused, none-created}
-use Rattle.paje_read_back.proofs.DeclaredLines.{NoneIs, Step, numbered-item, walk}
+use Rattle.paje_read_back.proofs.DeclaredLines.{NoneIs, Step, walk}
 use Rattle.paje_read_back.proofs.DeclaredTypes.{TypesAre, link-typed, link_type-unrefused, process-typed}
 use Rattle.paje_read_back.proofs.DeclaredTypes.{state-typed, state_type-unrefused, types-kept}
 use Rattle.paje_read_back.proofs.NumberedLines.{any_told, from-append, placed-append}
@@ -34,7 +35,7 @@ pub unrefused-joined : (before lines more : List EventLine)
     → AllByRecursion Unrefused (placed_behind (before ++ lines) more)
     → AllByRecursion Unrefused (placed_behind before (lines ++ more))
 unrefused-joined before lines more first second = subst (AllByRecursion Unrefused)
-    (sym (placed-append before lines more)) (all_joined Unrefused (placed_behind before lines)
+    (sym (placed-append before lines more)) (all_append Unrefused (placed_behind before lines)
     (placed_behind (before ++ lines) more) first second)
 
 -- ---- the declarations
@@ -70,10 +71,10 @@ pub declarations-each : (t : TraceText) (P : EventLine → Type 0) → ((n : ℕ
     → AllByRecursion P (declarations_told t)
 declarations-each t P process kinds link_kinds containers =
     subst (AllByRecursion P) (sym (declarations-parts t))
-    (all_joined P (process_line t) (kind_lines t ++ link_kind_lines t ++ container_lines t)
+    (all_append P (process_line t) (kind_lines t ++ link_kind_lines t ++ container_lines t)
     (process first_told, tt)
-    (all_joined P (kind_lines t ++ link_kind_lines t) (container_lines t)
-    (all_joined P (kind_lines t) (link_kind_lines t)
+    (all_append P (kind_lines t ++ link_kind_lines t) (container_lines t)
+    (all_append P (kind_lines t) (link_kind_lines t)
     (any_told P state_type_told kinds (first_told + 1) (enumerate_from 0 t.names.kinds))
     (any_told P link_type_told link_kinds (first_told + 1 + length (kinds_told t))
     (enumerate_from 0 t.names.link_kinds)))
@@ -85,7 +86,7 @@ declarations-each t P process kinds link_kinds containers =
 kinds-step : (kinds : List (List ℕ)) → 1 + length kinds ≤ MAX_TYPES
     → Step state_type_told (λ done before. TypesAre before (length done) 0) Unrefused (enumerate_from 0 kinds)
 kinds-step kinds limit done p left n before is are =
-    let item = numbered-item done left p 0 kinds is in
+    let item = enumerate-item done left p 0 kinds is in
     let at = item.0 in
     let within = slice_get_within kinds (length done) p.1 item.1 in
     let types : TypesAre before p.0 0 = subst (λ i. TypesAre before i 0) (omega (arith, at)) are in (
@@ -97,7 +98,7 @@ kinds-step kinds limit done p left n before is are =
 link_kinds-step : (i : ℕ) (kinds : List (List ℕ)) → 1 + i + length kinds ≤ MAX_TYPES
     → Step link_type_told (λ done before. TypesAre before i (length done)) Unrefused (enumerate_from 0 kinds)
 link_kinds-step i kinds limit done p left n before is are =
-    let item = numbered-item done left p 0 kinds is in
+    let item = enumerate-item done left p 0 kinds is in
     let at = item.0 in
     let within = slice_get_within kinds (length done) p.1 item.1 in
     let types : TypesAre before i p.0 = subst (TypesAre before i) (omega (arith, at)) are in (
@@ -113,7 +114,7 @@ Declare i j done before = TypesAre before i j × ContainersAre before done
 containers-step : (i j : ℕ) (containers : List Container) → length containers + 1 ≤ MAX_CONTAINERS
     → Step create_told (Declare i j) Unrefused (enumerate_from 1 containers)
 containers-step i j containers limit done p left n before is (types, are) =
-    let item = numbered-item done left p 1 containers is in
+    let item = enumerate-item done left p 1 containers is in
     let within = slice_get_within containers (length done) p.1 item.1 in (
       create-unrefused before i j done p n types are item.0 (omega (arith, within, limit)),
       (
@@ -173,9 +174,9 @@ link_kinds-walked t is =
 
 no_containers : (t : TraceText) → NoneIs (λ l. creates l.event)
     (process_line t ++ kind_lines t ++ link_kind_lines t)
-no_containers t = all_joined (λ l. creates l.event ≡ false) (process_line t ++ kind_lines t)
+no_containers t = all_append (λ l. creates l.event ≡ false) (process_line t ++ kind_lines t)
     (link_kind_lines t)
-    (all_joined (λ l. creates l.event ≡ false) (process_line t) (kind_lines t) (refl, tt)
+    (all_append (λ l. creates l.event ≡ false) (process_line t) (kind_lines t) (refl, tt)
     (any_told (λ l. creates l.event ≡ false) state_type_told (λ p n. refl) (first_told + 1)
     (enumerate_from 0 t.names.kinds)))
     (any_told (λ l. creates l.event ≡ false) link_type_told (λ p n. refl)

@@ -5,6 +5,7 @@ use Rattle.std.specs.List.{cons_option, find, list_all}
 use Rattle.std.specs.Option.{option_and_then}
 use Rattle.std.proofs.lemmas.Bool.{and_parts, true≢false}
 use Rattle.std.proofs.lemmas.List.Elements.{filter_map-append}
+use Rattle.list_lemmas.proofs.Options.{none_first}
 use Rattle.paje_defs.specs.Lines.{Line, begun_in, complete_in, definition_reason, definition_reason_at}
 use Rattle.paje_defs.specs.Refusals.{Placed, first_refused, placed_behind}
 use Rattle.paje_reader.specs.LineReasons.{definition_line, definition_lines, event_line_at}
@@ -13,7 +14,6 @@ use Rattle.paje_reader.specs.LineReasons.{why_of_definition}
 use Rattle.paje_reader.specs.TextLines.{Reading, TextLine, defines, reading, refused, skipped, tells}
 use Rattle.paje_read_back.proofs.DefinedLines.{all-defining, definitions_text, is_defining, lines-defined}
 use Rattle.paje_read_back.proofs.DefinedLines.{unrefused-defined}
-use Rattle.paje_read_back.proofs.ToldBehind.{none_first}
 
 abbrev AreDefining : List TextLine → Type 0
 AreDefining lines = list_all (λ line. is_defining (reading line)) lines ≡ true

@@ -3,7 +3,9 @@ use Rattle.std.proofs.Common.{◌≡◌, ℕ, ◌+◌, ◌≤◌, List, [], ◌�
 use Rattle.std.proofs.Common.{Bool, true, false, cond, sym, subst, arith}
 use Rattle.std.specs.List.{AllByRecursion, enumerate_from, flat_map, zip}
 use Rattle.std.proofs.lemmas.List.Elements.{recursion_from_All}
-use Rattle.trace_base.proofs.Order.{all_mapped}
+use Rattle.list_lemmas.proofs.Each.{all_append, all_at, all_dropped, all_enumerated, all_first, all_map}
+use Rattle.list_lemmas.proofs.Each.{all_mapped, all_second, all_unenumerated}
+use Rattle.list_lemmas.proofs.Sums.{greatest_within}
 use Rattle.trace_base.specs.Stream.{IsLegal, time_of}
 use Rattle.trace_base.specs.declared.messages.LinkEvent.{LinkEvent}
 use Rattle.trace_base.specs.declared.names.Container.{Container}
@@ -17,21 +19,17 @@ use Rattle.paje_lines.specs.EventLine.{EventLine}
 use Rattle.paje_lines.specs.Examples.{from}
 use Rattle.paje_print.specs.Canonical.{IsCanonical, SpansItsContainer, last_moments}
 use Rattle.paje_print.specs.CanonicalText.{placed_containers}
-use Rattle.paje_legal.proofs.Containers.{each_in_time}
-use Rattle.paje_legal.proofs.Lists.{all_joined, found_has, greatest_within}
+use Rattle.paje_lines.proofs.Containers.{each_in_time}
 use Rattle.paje_read_back.specs.ToldLines.{containers_told, create_told, declarations_told, destroy_told}
 use Rattle.paje_read_back.specs.ToldLines.{end_told, first_told, link_told, link_type_told, links_told}
 use Rattle.paje_read_back.specs.ToldLines.{start_told, state_told, state_type_told}
 use Rattle.paje_read_back.specs.ToldLines.{states_told, told_lines, track_told, types_told}
-use Rattle.paje_read_back.proofs.AllItems.{all_dropped, all_enumerated, all_first, all_second}
-use Rattle.paje_read_back.proofs.AllItems.{all_unenumerated}
 use Rattle.paje_read_back.proofs.DeclaredParts.{end_lines, link_lines, state_lines, told-parts}
 use Rattle.paje_read_back.proofs.DeclaredUnrefused.{container_lines, declarations-parts, kind_lines}
 use Rattle.paje_read_back.proofs.DeclaredUnrefused.{kinds_told, link_kind_lines, link_kinds_told}
 use Rattle.paje_read_back.proofs.DeclaredUnrefused.{process_line}
 use Rattle.paje_read_back.proofs.NumberedLines.{all_told, all_untold, any_told, from-append}
 use Rattle.paje_read_back.proofs.TraceTimes.{ends-within, links-within, moments-by_end, starts-within}
-use Rattle.paje_print.proofs.GeneratedLists.{all_map}
 
 -- ---- the times of the trace are within its end
 
@@ -63,7 +61,7 @@ tracks-within functions end (p ∷ ps) n all =
     (p.1.start ∷ map time_of p.1.events) (moments-by_end p.1 all.0.0) in
     subst (AllByRecursion (IsBy end))
     (sym (from-append n (track_told functions p) (flat_map (track_told functions) ps)))
-    (all_joined (IsBy end) (from n (track_told functions p)) (from (n + length (track_told functions p))
+    (all_append (IsBy end) (from n (track_told functions p)) (from (n + length (track_told functions p))
     (flat_map (track_told functions) ps))
     (times.0, events-within functions p.0 end p.1.events (n + 1) times.1)
     (tracks-within functions end ps (n + length (track_told functions p)) all.1))
@@ -80,7 +78,7 @@ each-ends : (t : TraceText) → IsCanonical t → (ps : List (Track × TrackStre
     → AllByRecursion (EndsBy t.names.end) ps
 each-ends t is [] spans legal = tt
 each-ends t is (p ∷ ps) ((c, at, span), spans) legal =
-    let end : c.end ≤ t.names.end = found_has (λ c. c.end ≤ t.names.end) t.names.containers p.0.container c
+    let end : c.end ≤ t.names.end = all_at (λ c. c.end ≤ t.names.end) t.names.containers p.0.container c
     (ends-within t is) at in
     let same = span.1 in
     ((legal.0, omega (arith, end, same)), each-ends t is ps spans legal.1)
@@ -111,10 +109,10 @@ placed-within t P all = all_enumerated P 1 (drop 1 t.names.containers) (all_drop
 declarations-within : (t : TraceText) → IsCanonical t
     → AllByRecursion (IsBy t.names.end) (declarations_told t)
 declarations-within t is = subst (AllByRecursion (IsBy t.names.end)) (sym (declarations-parts t))
-    (all_joined (IsBy t.names.end) (process_line t) (kind_lines t ++ link_kind_lines t ++ container_lines t)
+    (all_append (IsBy t.names.end) (process_line t) (kind_lines t ++ link_kind_lines t ++ container_lines t)
     (omega arith, tt)
-    (all_joined (IsBy t.names.end) (kind_lines t ++ link_kind_lines t) (container_lines t)
-    (all_joined (IsBy t.names.end) (kind_lines t) (link_kind_lines t)
+    (all_append (IsBy t.names.end) (kind_lines t ++ link_kind_lines t) (container_lines t)
+    (all_append (IsBy t.names.end) (kind_lines t) (link_kind_lines t)
     (any_told (IsBy t.names.end) state_type_told (λ p n. omega arith) (first_told + 1)
     (enumerate_from 0 t.names.kinds))
     (any_told (IsBy t.names.end) link_type_told (λ p n. omega arith)
@@ -125,9 +123,9 @@ declarations-within t is = subst (AllByRecursion (IsBy t.names.end)) (sym (decla
 
 lines-within : (t : TraceText) → IsCanonical t → AllByRecursion (IsBy t.names.end) (told_lines t)
 lines-within t is = subst (AllByRecursion (IsBy t.names.end)) (sym (told-parts t))
-    (all_joined (IsBy t.names.end) (declarations_told t ++ state_lines t ++ link_lines t) (end_lines t)
-    (all_joined (IsBy t.names.end) (declarations_told t ++ state_lines t) (link_lines t)
-    (all_joined (IsBy t.names.end) (declarations_told t) (state_lines t) (declarations-within t is)
+    (all_append (IsBy t.names.end) (declarations_told t ++ state_lines t ++ link_lines t) (end_lines t)
+    (all_append (IsBy t.names.end) (declarations_told t ++ state_lines t) (link_lines t)
+    (all_append (IsBy t.names.end) (declarations_told t) (state_lines t) (declarations-within t is)
     (states-within t is))
     (links-by_end t.names.end (first_told + length (types_told t ++ containers_told t ++ states_told t))
     t.links (links-within t is)))
@@ -155,7 +153,7 @@ moments-of_lines t end all =
     let front = all_first (IsBy end) (declarations_told t ++ state_lines t ++ link_lines t) (end_lines t)
     parts
     in
-    all_joined (λ n. n ≤ end) (map (λ c. c.end) (drop 1 t.names.containers)) (map (λ l. l.time) t.links)
+    all_append (λ n. n ≤ end) (map (λ c. c.end) (drop 1 t.names.containers)) (map (λ l. l.time) t.links)
     (all_map (λ n. n ≤ end) (λ c. c.end) (drop 1 t.names.containers)
     (all_unenumerated (λ c. c.end ≤ end) 1 (drop 1 t.names.containers)
     (all_untold (λ (p : ℕ × Container). p.1.end ≤ end) (IsBy end) destroy_told (λ p n is. is)

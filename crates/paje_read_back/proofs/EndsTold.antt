@@ -1,14 +1,17 @@
 -- The ends of the containers of a canonical text, and that no line that destroys one is refused.
 use Rattle.std.proofs.Common.{◌≡◌, ℕ, suc, ◌+◌, ◌<◌, ◌≤◌, ◌==◌, List, [], ◌∷◌, ◌++◌, drop, filter}
-use Rattle.std.proofs.Common.{length, map, slice_get, Bool, true, false, cond, Option, Some, None}
+use Rattle.std.proofs.Common.{length, map, slice_get, Bool, true, false, cond, Some, None}
 use Rattle.std.proofs.Common.{refl, sym, ◌∙◌, ap, subst, arith, ◌&&◌}
 use Rattle.std.specs.List.{All, AllByRecursion, last_or}
 use Rattle.std.specs.Option.{option_and_then, option_map, option_map_or, option_or}
 use Rattle.std.proofs.lemmas.Bool.{eqb-false, eqb-true, le-ltb, ne_eqb}
 use Rattle.std.proofs.lemmas.List.{length_push}
 use Rattle.std.proofs.lemmas.List.Elements.{All-from_recursion, recursion_from_All}
-use Rattle.std.proofs.lemmas.Option.{none-some, same_Some, slice_get_within}
-use Rattle.trace_base.proofs.Order.{all_mapped}
+use Rattle.std.proofs.lemmas.Option.{same_Some, slice_get_within}
+use Rattle.list_lemmas.proofs.Each.{all_append, all_at, all_mapped}
+use Rattle.list_lemmas.proofs.Maps.{enumerate-item}
+use Rattle.list_lemmas.proofs.Options.{cond_unless, option_map-or_stays}
+use Rattle.list_lemmas.proofs.Sums.{greatest_within}
 use Rattle.trace_base.specs.declared.names.Container.{Container}
 use Rattle.trace_base.specs.declared.names.Track.{Track}
 use Rattle.trace_base.specs.declared.text.TraceText.{TraceText}
@@ -27,12 +30,11 @@ use Rattle.paje_lines.specs.States.{track_named, tracks_in}
 use Rattle.paje_print.specs.Canonical.{IsCanonical, StartsBeforeItsEnd}
 use Rattle.paje_print.specs.CanonicalText.{placed_containers}
 use Rattle.paje_print.specs.WrittenNumbers.{container_alias}
-use Rattle.paje_legal.proofs.Containers.{destruction-more}
-use Rattle.paje_legal.proofs.Lists.{all_joined, found_has, greatest_within}
+use Rattle.paje_lines.proofs.Containers.{destruction-more}
 use Rattle.paje_read_back.specs.ToldLines.{declarations_told, destroy_told, ends_told}
 use Rattle.paje_read_back.proofs.DeclaredContainers.{containers-same, of-container}
-use Rattle.paje_read_back.proofs.DeclaredLines.{NoneIs, Step, chosen-same, none-found, none-unless}
-use Rattle.paje_read_back.proofs.DeclaredLines.{numbered-item, told-same, walk}
+use Rattle.paje_read_back.proofs.DeclaredLines.{NoneIs, Step, chosen-same, none-found}
+use Rattle.paje_read_back.proofs.DeclaredLines.{told-same, walk}
 use Rattle.paje_read_back.proofs.DeclaredUnrefused.{Declares, Unrefused, declarations-each, declared}
 use Rattle.paje_read_back.proofs.FindsNames.{EndsInTime}
 use Rattle.paje_read_back.proofs.LineKinds.{IsLinkLine, IsStateLine, links-declare_nothing}
@@ -55,7 +57,7 @@ last_time-same before more track states containers =
     (container_start (before ++ more) track.container))
     (chosen-same (is_on track) (λ l. is_state_event l.event)
     (λ before line never. ap (λ o. option_map_or (is_same track) o false)
-    (none-unless (is_state_event line.event) (track_named before line) never)) before more states)
+    (cond_unless (is_state_event line.event) (track_named before line) never)) before more states)
     ∙ ap (λ cs. option_map_or (λ p. p.line.time) (last_or None (states_of before track))
     (option_map_or (λ c. c.start) (slice_get cs track.container) 0)) (containers-same before more containers)
 
@@ -65,7 +67,7 @@ times-kept : (t : TraceText) (before more : List EventLine) → NoneIs (λ l. is
 times-kept t before more states containers times =
     subst (AllByRecursion (EndsInTime t (before ++ more)))
     (sym (ap (distinct_by is_same) (told-same track_at (λ l. is_state_event l.event)
-    (λ before line never. none-unless (is_state_event line.event) (track_named before line) never)
+    (λ before line never. cond_unless (is_state_event line.event) (track_named before line) never)
     before more states)))
     (all_mapped (EndsInTime t before) (EndsInTime t (before ++ more))
     (λ track ends c at. subst (λ n. n ≤ c.end) (sym (last_time-same before more track states containers))
@@ -91,7 +93,7 @@ latest-within : (t : TraceText) (before : List EventLine) (k : ℕ) (c : Contain
     → slice_get t.names.containers k ≡ Some c → latest before k ≤ c.end
 latest-within t before k c is are times at =
     let start = start-found t before is are k c at in
-    let interval : StartsBeforeItsEnd c = found_has StartsBeforeItsEnd t.names.containers k c
+    let interval : StartsBeforeItsEnd c = all_at StartsBeforeItsEnd t.names.containers k c
     (recursion_from_All StartsBeforeItsEnd t.names.containers is.intervals) at in
     greatest_within (container_start before k) c.end (map (last_time before) (container_tracks before k))
     (omega (arith, start, interval))
@@ -108,11 +110,6 @@ pub record EndsAre (t : TraceText) (done : List (ℕ × Container)) (before : Li
       → option_map (λ l. l.time) (destruction before i) ≡ Some c.end
   pub root : destruction before 0 ≡ None
   pub there : (i : ℕ) → length done < i → destruction before i ≡ None
-
-or-stays : {X Y : Type 0} (f : X → Y) (o later : Option X) (y : Y) → option_map f o ≡ Some y
-    → option_map f (option_or o later) ≡ Some y
-or-stays f None later y is = absurd (none-some y is)
-or-stays f (Some x) later y is = is
 
 -- the line destroys the container that it names
 ends-this : (before : List EventLine) (p : ℕ × Container) (n i : ℕ)
@@ -153,7 +150,7 @@ ended-more t done p n before are at item named i c is above below = by (p.0 == i
         ∙ ap (λ c. Some c.end) container)
     by false e =
         ap (option_map (λ l. l.time)) (destruction-more before (destroy_told p n) i)
-        ∙ or-stays (λ l. l.time) (destruction before i) _ c.end
+        ∙ option_map-or_stays (λ l. l.time) (destruction before i) _ c.end
         (are.ended i c is above (earlier (eqb-false p.0 i e)))
       where
         earlier : (p.0 ≡ i → ⊥) → i < length done + 1
@@ -174,7 +171,7 @@ record IsItem (t : TraceText) (done : List (ℕ × Container)) (p : ℕ × Conta
 is-item : (t : TraceText) (done left : List (ℕ × Container)) (p : ℕ × Container)
     → done ++ p ∷ left ≡ placed_containers t → IsItem t done p
 is-item t done left p is =
-    let item = numbered-item done left p 1 (drop 1 t.names.containers) is in
+    let item = enumerate-item done left p 1 (drop 1 t.names.containers) is in
     record {
       at = item.0;
       container = sym (behind-root t.names.containers (length done) p.0 item.0) ∙ item.1;
@@ -270,8 +267,8 @@ ends-first : (t : TraceText) → IsCanonical t → (states links : List EventLin
     → EndsAre t [] (declarations_told t ++ states ++ links)
 ends-first t is states links are_states are_links =
     let none : NoneIs (λ l. destroys l.event) (declarations_told t ++ states ++ links) =
-    all_joined (λ l. destroys l.event ≡ false) (declarations_told t ++ states) links
-    (all_joined (λ l. destroys l.event ≡ false) (declarations_told t) states
+    all_append (λ l. destroys l.event ≡ false) (declarations_told t ++ states) links
+    (all_append (λ l. destroys l.event ≡ false) (declarations_told t) states
     (declarations-each t (λ l. destroys l.event ≡ false) (λ n. refl) (λ k n. refl) (λ k n. refl)
     (λ c n. refl)) (states-destroy_none states are_states)) (links-destroy_none links are_links) in
     let gone = λ (i : ℕ). ap (option_map (λ (p : Placed EventLine). p.line)) (none-found (ends_container i)

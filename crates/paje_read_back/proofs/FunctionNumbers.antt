@@ -1,11 +1,11 @@
 -- The calls of a canonical trace are of its functions.
-use Rattle.std.proofs.Common.{ℕ, ◌+◌, ◌≤◌, zero, suc, List}
+use Rattle.std.proofs.Common.{ℕ, ◌≤◌, List}
 use Rattle.std.proofs.Common.{length}
 use Rattle.std.proofs.Common.{sym, subst, arith, nat_eq}
-use Rattle.std.specs.List.{AllByRecursion, range_with_len}
+use Rattle.std.specs.List.{AllByRecursion}
 use Rattle.std.proofs.lemmas.Bool.{eqb-true}
 use Rattle.std.proofs.lemmas.List.Elements.{All-from_recursion, recursion_from_All}
-use Rattle.trace_base.proofs.Order.{all_mapped}
+use Rattle.list_lemmas.proofs.Ranges.{range_within}
 use Rattle.trace_base.specs.declared.text.TraceText.{TraceText}
 use Rattle.paje_lines.specs.Found.{distinct_by}
 use Rattle.paje_legal.proofs.StreamLists.{All-from_distinct}
@@ -14,16 +14,6 @@ use Rattle.paje_print.specs.Canonical.{IsCanonical, functions_called}
 -- the number of one of these functions, counted from 1
 abbrev pub IsOneOf : List (List ℕ) → ℕ → Type 0
 IsOneOf functions f = (1 ≤ f) × (f ≤ length functions)
-
-range_within : (first n limit : ℕ) → first + n ≤ limit + 1
-    → AllByRecursion (λ f. (first ≤ f) × (f ≤ limit)) (range_with_len first n)
-range_within first zero limit within = tt
-range_within first (suc n) limit within = (
-  (omega arith, omega (arith, within)),
-  all_mapped (λ f. (first + 1 ≤ f) × (f ≤ limit)) (λ f. (first ≤ f) × (f ≤ limit))
-      (λ f both. (omega (arith, both.0), both.1)) (range_with_len (first + 1) n)
-      (range_within (first + 1) n limit (omega (arith, within))),
-)
 
 -- each call is of one of the functions
 pub called_known : (t : TraceText) → IsCanonical t

@@ -1,6 +1,6 @@
 -- The functions that the told lines enter.
 use Rattle.std.proofs.Common.{◌≡◌, ℕ, ◌+◌, ◌-◌, ◌<◌, List, [], ◌∷◌, ◌++◌, map, filter}
-use Rattle.std.proofs.Common.{filter_map, flat_map, length, slice_get, get_or, Bool, true, false, not, cond}
+use Rattle.std.proofs.Common.{filter_map, flat_map, length, slice_get, get_or, Bool, true, false, not}
 use Rattle.std.proofs.Common.{Some, refl, sym, ◌∙◌, ap, ap₂, arith, zip, nat_eq}
 use Rattle.std.proofs.Common.{bytes_eq, ◌==◌}
 use Rattle.std.specs.List.{AllByRecursion, cons_option, position_or_len, range_with_len}
@@ -13,7 +13,9 @@ use Rattle.std.proofs.lemmas.List.FromFn.{get_or-map-range_with_len, length-map-
 use Rattle.std.proofs.lemmas.List.Sums.{position_or_len_is}
 use Rattle.std.proofs.lemmas.Option.{slice_get-get_or, unwrap_or-slice_get}
 use Rattle.std.proofs.lemmas.Slice.Zip.{seconds-zip}
-use Rattle.trace_base.proofs.Order.{all_mapped}
+use Rattle.list_lemmas.proofs.Each.{all_mapped}
+use Rattle.list_lemmas.proofs.Filters.{filter-map_agree}
+use Rattle.list_lemmas.proofs.Maps.{flat_map-seconds}
 use Rattle.trace_base.specs.Info.{NamesExisting}
 use Rattle.trace_base.specs.declared.names.Track.{Track}
 use Rattle.trace_base.specs.declared.stream.Event.{Event}
@@ -25,7 +27,7 @@ use Rattle.paje_lines.specs.EventLine.{EventLine}
 use Rattle.paje_lines.specs.Examples.{Unnumbered, from}
 use Rattle.paje_lines.specs.Found.{distinct_by}
 use Rattle.paje_lines.specs.States.{entered_text, function_number, functions_entered}
-use Rattle.paje_legal.proofs.DistinctItems.{distinct_all}
+use Rattle.paje_lines.proofs.DistinctItems.{distinct_all}
 use Rattle.paje_lines.specs.Values.{text_among, value_text}
 use Rattle.paje_print.specs.Canonical.{IsCanonical, function_entered_by, functions_called}
 use Rattle.paje_print.specs.CanonicalText.{text_of_function}
@@ -111,17 +113,6 @@ texts_all functions = same_lists (map (text_of_function functions) (range_with_l
 
 -- ---- different items of a mapped list
 
-filter_made : {X Y : Type 0} (p : Y → Bool) (q : X → Bool) (f : X → Y) (xs : List X)
-    → AllByRecursion (λ x. p (f x) ≡ q x) xs → filter p (map f xs) ≡ map f (filter q xs)
-filter_made p q f [] all = refl
-filter_made {X} {Y} p q f (x ∷ xs) all =
-    ap₂ (λ b ys. cond b (f x ∷ ys) ys) all.0 (filter_made p q f xs all.1) ∙ by (q x)
-  where
-    by : (b : Bool) → cond b (f x ∷ map f (filter q xs)) (map f (filter q xs))
-        ≡ map f (cond b (x ∷ filter q xs) (filter q xs))
-    by true = refl
-    by false = refl
-
 -- where the test on what is made of them tells the same
 distinct_made : {X Y : Type 0} (same : X → X → Bool) (equal : Y → Y → Bool) (f : X → Y) (P : X → Type 0)
     → ((x y : X) → P x → P y → equal (f x) (f y) ≡ same x y) → (xs : List X) → AllByRecursion P xs
@@ -129,7 +120,7 @@ distinct_made : {X Y : Type 0} (same : X → X → Bool) (equal : Y → Y → Bo
 distinct_made same equal f P agree [] all = refl
 distinct_made same equal f P agree (x ∷ xs) all =
     ap (λ ys. f x ∷ filter (λ y. not (equal (f x) y)) ys) (distinct_made same equal f P agree xs all.1)
-    ∙ ap (λ ys. f x ∷ ys) (filter_made (λ y. not (equal (f x) y)) (λ y. not (same x y)) f
+    ∙ ap (λ ys. f x ∷ ys) (filter-map_agree (λ y. not (equal (f x) y)) (λ y. not (same x y)) f
     (distinct_by same xs) (all_mapped P (λ y. not (equal (f x) (f y)) ≡ not (same x y))
     (λ y holds. ap not (agree x y all.0 holds)) (distinct_by same xs) (distinct_all same P xs all.1)))
 
@@ -185,11 +176,6 @@ entered_in_turn t (p ∷ pairs) existing before n finds =
     ∙ sym (map-append (text_of_function functions) (filter_map function_entered_by p.1.events)
     (flat_map (λ p. filter_map function_entered_by p.1.events) pairs))))
 
-parts_of_seconds : {X Y Z : Type 0} (f : Y → List Z) (pairs : List (X × Y))
-    → flat_map (λ p. f p.1) pairs ≡ flat_map f (map (λ p. p.1) pairs)
-parts_of_seconds f [] = refl
-parts_of_seconds f (p ∷ pairs) = ap (λ zs. f p.1 ++ zs) (parts_of_seconds f pairs)
-
 -- ---- the functions
 
 -- the numbers of the functions that are called in a stream
@@ -215,7 +201,7 @@ functions-said t canonical finds =
     ∙ (functions_until t (zip t.names.tracks t.tracks) (rest_told t) (pairs_existing t canonical)
     (rest_no_state t) finds
     ∙ (ap (λ fs. distinct_by bytes_eq (map (text_of_function functions) fs))
-    (parts_of_seconds called_in (zip t.names.tracks t.tracks)
+    (flat_map-seconds called_in (zip t.names.tracks t.tracks)
     ∙ ap (flat_map called_in) (seconds-zip t.names.tracks t.tracks canonical.streams))
     ∙ (distinct_made nat_eq bytes_eq (text_of_function functions) (IsOneOf functions)
     (texts_same functions canonical.different) (functions_called t) (called_known t canonical)

@@ -1,4 +1,3 @@
-pub mod AllItems
 pub mod DeclaredContainers
 pub mod DeclaredLines
 pub mod DeclaredParts

@@ -3,13 +3,12 @@ use Rattle.std.proofs.Common.{◌≡◌, ℕ, ◌+◌, List, [], ◌∷◌, leng
 use Rattle.std.proofs.Common.{cond, map, refl, sym}
 use Rattle.std.specs.List.{AllByRecursion}
 use Rattle.std.proofs.lemmas.Bool.{true≢false}
-use Rattle.trace_base.proofs.Order.{all_mapped}
+use Rattle.list_lemmas.proofs.Each.{all_append, all_mapped}
 use Rattle.trace_base.specs.declared.messages.LinkEvent.{LinkEvent}
 use Rattle.paje_defs.specs.declared.event_name.EventName.{EventName}
 use Rattle.paje_defs.specs.declared.event_name.EventName.TheVariants as events
 use Rattle.paje_lines.specs.EventLine.{EventLine, destroys, is_link_event, is_state_event}
 use Rattle.paje_lines.specs.Examples.{from}
-use Rattle.paje_legal.proofs.Lists.{all_joined}
 use Rattle.paje_read_back.specs.ToldLines.{end_told, link_told, start_told}
 use Rattle.paje_read_back.proofs.DeclaredLines.{NoneIs}
 use Rattle.paje_read_back.proofs.FindsNames.{DeclaresNothing, declares_nothing}
@@ -97,7 +96,7 @@ pub tracks_are : (functions : List (List ℕ)) (ps : List (Track × TrackStream)
 tracks_are functions [] n = tt
 tracks_are functions (p ∷ ps) n = subst (AllByRecursion IsStateLine)
     (sym (from-append n (track_told functions p) (flat_map (track_told functions) ps)))
-    (all_joined IsStateLine (from n (track_told functions p)) (from (n + length (track_told functions p))
+    (all_append IsStateLine (from n (track_told functions p)) (from (n + length (track_told functions p))
     (flat_map (track_told functions) ps)) (track_is functions p n)
     (tracks_are functions ps (n + length (track_told functions p))))
 

@@ -2,20 +2,19 @@
 use Rattle.std.proofs.Common.{◌≡◌, ℕ, List, [], ◌∷◌, All, ap, map}
 use Rattle.std.proofs.lemmas.List.Elements.{All-from_recursion, recursion_from_All}
 use Rattle.std.specs.List.{AllByRecursion, enumerate_from}
+use Rattle.list_lemmas.proofs.Each.{all_append, all_second}
 use Rattle.trace_base.specs.declared.text.TraceText.{TraceText}
 use Rattle.paje_print.specs.Canonical.{FitsOnLine, IsCanonical}
 use Rattle.paje_print.specs.CanonicalText.{canonical_lines, canonical_text, event_lines_written}
 use Rattle.paje_print.specs.WrittenEvents.{definitions_written}
 use Rattle.paje_print.specs.WrittenWords.{WrittenLine, bare, line_text, quoted}
 use Rattle.paje_reader.specs.TextLines.{lines_in, reading, tells, text_line}
-use Rattle.paje_read_back.proofs.AllItems.{all_second}
 use Rattle.paje_read_back.proofs.LinesCut.{written_lines-cut}
 use Rattle.paje_read_back.proofs.LinesOfDefinitions.{definitions-words}
 use Rattle.paje_read_back.proofs.LinesWellWritten.{AreEventLines, event_lines-written}
 use Rattle.paje_read_back.proofs.WordBytes.{word_bytes}
 use Rattle.paje_read_back.proofs.WordsRead.{IsEventLine, event_line-told}
 use Rattle.paje_read_back.proofs.WordsWellWritten.{AreWellWritten}
-use Rattle.paje_legal.proofs.Lists.{all_joined}
 
 -- ---- the text is cut into its lines
 
@@ -31,7 +30,7 @@ event_lines-words (line ∷ lines) (is, are) = (event_line-words line is, event_
 
 canonical-words : (t : TraceText) → IsCanonical t → AllByRecursion AreWellWritten (canonical_lines t)
 canonical-words t is =
-    all_joined AreWellWritten definitions_written (event_lines_written t)
+    all_append AreWellWritten definitions_written (event_lines_written t)
     definitions-words
     (event_lines-words (event_lines_written t) (event_lines-written t is))
 

@@ -4,6 +4,8 @@ use Rattle.std.proofs.Common.{drop, map, refl, slice_get, unwrap_or}
 use Rattle.std.proofs.lemmas.Bool.{cond_both}
 use Rattle.std.proofs.lemmas.List.Elements.{recursion_from_All}
 use Rattle.std.specs.List.{AllByRecursion, enumerate_from, flat_map, zip}
+use Rattle.list_lemmas.proofs.Each.{all_append, all_dropped, all_enumerated, all_first, all_made, all_second}
+use Rattle.list_lemmas.proofs.Each.{all_unmap, any_made, any_parts}
 use Rattle.trace_base.specs.declared.messages.LinkEvent.{LinkEvent}
 use Rattle.trace_base.specs.declared.names.Container.{Container}
 use Rattle.trace_base.specs.declared.names.Track.{Track}
@@ -19,8 +21,6 @@ use Rattle.paje_print.specs.CanonicalText.{track_lines}
 use Rattle.paje_print.specs.WrittenNumbers.{container_alias, link_type_alias, seconds_text}
 use Rattle.paje_print.specs.WrittenNumbers.{state_type_alias}
 use Rattle.paje_print.specs.WrittenWords.{WrittenLine, WrittenWord, bare, quoted}
-use Rattle.paje_read_back.proofs.AllItems.{all_dropped, all_enumerated, all_first, all_made, all_second}
-use Rattle.paje_read_back.proofs.AllItems.{all_unmade, any_made, any_parts}
 use Rattle.paje_read_back.proofs.WordsOfNumbers.{container_alias-written, decimal-written}
 use Rattle.paje_read_back.proofs.WordsOfNumbers.{link_type_alias-written, seconds-written}
 use Rattle.paje_read_back.proofs.WordsOfNumbers.{state_type_alias-written}
@@ -28,7 +28,6 @@ use Rattle.paje_read_back.proofs.WordsRead.{IsEventLine}
 use Rattle.paje_read_back.proofs.WordsWellWritten.{AreWellWritten, IsBareWord, IsWellWritten}
 use Rattle.paje_read_back.proofs.WordsWellWritten.{word_bytes-ascii}
 use Rattle.std.proofs.lemmas.Str.{IsUtf8-from_ascii, IsUtf8-nil}
-use Rattle.paje_legal.proofs.Lists.{all_joined}
 
 abbrev pub AreEventLines : List WrittenLine → Type 0
 AreEventLines lines = AllByRecursion IsEventLine lines
@@ -171,7 +170,7 @@ link-written l is =
     let start : List WrittenWord = link_words l ++ bare (decimal l.size) ∷ [] in
     cond_both l.starts (bare (codes "8") ∷ start) (bare (codes "9") ∷ link_words l) IsEventLine
     (λ starts. of_number 56 start (omega arith) (omega arith)
-    (all_joined IsWellWritten (link_words l) (bare (decimal l.size) ∷ []) (link_words-written l is)
+    (all_append IsWellWritten (link_words l) (bare (decimal l.size) ∷ []) (link_words-written l is)
     (decimal-written l.size, tt)))
     (λ ends. of_number 57 (link_words l) (omega arith) (omega arith) (link_words-written l is))
 
@@ -195,12 +194,12 @@ has_quotable t are =
     let to_link_kinds = all_first IsQuotable link_kinds t.names.functions to_functions in
     let to_kinds = all_first IsQuotable kinds t.names.link_kinds to_link_kinds in
     record {
-      containers = all_unmade IsQuotable (λ (c : Container). c.name) t.names.containers
+      containers = all_unmap IsQuotable (λ (c : Container). c.name) t.names.containers
           (all_first IsQuotable names t.names.kinds to_kinds);
       kinds = all_second IsQuotable names t.names.kinds to_kinds;
       link_kinds = all_second IsQuotable kinds t.names.link_kinds to_link_kinds;
       functions = all_second IsQuotable link_kinds t.names.functions to_functions;
-      links = all_unmade IsQuotable (λ (l : LinkEvent). l.key) t.links
+      links = all_unmap IsQuotable (λ (l : LinkEvent). l.key) t.links
           (all_second IsQuotable (link_kinds ++ t.names.functions) keys are);
     }
 
@@ -214,11 +213,11 @@ placed-written t has =
 lines-written : (t : TraceText) → HasQuotable t → AreEventLines (event_lines_written t)
 lines-written t has = (
   process_type-written,
-  all_joined IsEventLine _ (map destroy_line (placed_containers t))
-      (all_joined IsEventLine _ (map link_line t.links)
-      (all_joined IsEventLine _ (flat_map (track_lines t.names.functions) (zip t.names.tracks t.tracks))
-      (all_joined IsEventLine _ (map create_line (placed_containers t))
-      (all_joined IsEventLine (map state_type_line (enumerate_from 0 t.names.kinds))
+  all_append IsEventLine _ (map destroy_line (placed_containers t))
+      (all_append IsEventLine _ (map link_line t.links)
+      (all_append IsEventLine _ (flat_map (track_lines t.names.functions) (zip t.names.tracks t.tracks))
+      (all_append IsEventLine _ (map create_line (placed_containers t))
+      (all_append IsEventLine (map state_type_line (enumerate_from 0 t.names.kinds))
       (map link_type_line (enumerate_from 0 t.names.link_kinds))
       (all_made (λ p. IsQuotable p.1) IsEventLine state_type_line state_type-written
       (enumerate_from 0 t.names.kinds) (all_enumerated IsQuotable 0 t.names.kinds has.kinds))

@@ -5,6 +5,9 @@ use Rattle.std.specs.List.{All, AllByRecursion}
 use Rattle.std.specs.Option.{option_map, option_to_list, option_zip}
 use Rattle.std.proofs.lemmas.List.{length_push}
 use Rattle.std.proofs.lemmas.List.Elements.{All-from_recursion, recursion_from_All}
+use Rattle.list_lemmas.proofs.Each.{all_append, item_has}
+use Rattle.list_lemmas.proofs.Options.{cond_unless}
+use Rattle.list_lemmas.proofs.Positions.{item_within}
 use Rattle.trace_base.specs.declared.limits.TheConstants.{MAX_LINK_EVENTS}
 use Rattle.trace_base.specs.declared.messages.LinkEvent.{LinkEvent}
 use Rattle.trace_base.specs.declared.text.TraceText.{TraceText}
@@ -22,12 +25,11 @@ use Rattle.paje_lines.specs.Text.{link_at, links_of}
 use Rattle.paje_lines.specs.Types.{link_kind_named, link_number, type_named}
 use Rattle.paje_print.specs.Canonical.{HasCanonicalSize, IsCanonical, LinksExisting, size_limit}
 use Rattle.paje_print.specs.WrittenNumbers.{container_alias, link_type_alias}
-use Rattle.paje_legal.proofs.Lists.{all_joined}
-use Rattle.paje_legal.proofs.LinkEvents.{links_in-more}
+use Rattle.paje_lines.proofs.LinkEvents.{links_in-more}
 use Rattle.paje_read_back.specs.ToldLines.{declarations_told, end_told, link_told, links_told, start_told}
 use Rattle.paje_read_back.proofs.DeclaredContainers.{of-container}
-use Rattle.paje_read_back.proofs.DeclaredLines.{NoneIs, Step, item-has, item-within, none-picked, none-told}
-use Rattle.paje_read_back.proofs.DeclaredLines.{none-unless, walk}
+use Rattle.paje_read_back.proofs.DeclaredLines.{NoneIs, Step, none-picked, none-told}
+use Rattle.paje_read_back.proofs.DeclaredLines.{walk}
 use Rattle.paje_read_back.proofs.DeclaredTypes.{link-sort, of-sort}
 use Rattle.paje_read_back.proofs.DeclaredUnrefused.{Declares, Unrefused, declarations-each, declared}
 use Rattle.paje_read_back.proofs.LineKinds.{IsLinkLine, IsStateLine, link_event, link_facts}
@@ -115,11 +117,11 @@ record LinksAre (t : TraceText) (done : List LinkEvent) (before : List EventLine
 
 links_step : (t : TraceText) → IsCanonical t → Step link_told (LinksAre t) Unrefused t.links
 links_step t is done l left n before at are =
-    let existing = item-has (LinksExisting t.names) done left l t.links at
+    let existing = item_has (LinksExisting t.names) done left l t.links at
     (recursion_from_All (LinksExisting t.names) t.links is.linked) in
-    let size = item-has HasCanonicalSize done left l t.links at
+    let size = item_has HasCanonicalSize done left l t.links at
     (recursion_from_All HasCanonicalSize t.links is.sizes) in
-    let within = item-within done left l t.links at in
+    let within = item_within done left l t.links at in
     let limit = is.limits.links in
     let count = are.count in
     let finds = finds-link t before l is are.declares existing in
@@ -141,7 +143,7 @@ links-first : (t : TraceText) → IsCanonical t → (states : List EventLine) �
     → LinksAre t [] (declarations_told t ++ states)
 links-first t is states are =
     let none : NoneIs (λ l. is_link_event l.event) (declarations_told t ++ states) =
-    all_joined (λ l. is_link_event l.event ≡ false) (declarations_told t) states
+    all_append (λ l. is_link_event l.event ≡ false) (declarations_told t) states
     (declarations-each t (λ l. is_link_event l.event ≡ false) (λ n. refl) (λ k n. refl) (λ k n. refl)
     (λ c n. refl)) (states-no_links states are) in
     record {
@@ -149,7 +151,7 @@ links-first t is states are =
           (declared t is).declares;
       count = ap length (none-picked (λ l. is_link_event l.event) (declarations_told t ++ states) none);
       links = none-told link_at (λ l. is_link_event l.event)
-          (λ before line never. none-unless (is_link_event line.event) _ never) []
+          (λ before line never. cond_unless (is_link_event line.event) _ never) []
           (declarations_told t ++ states) none;
     }
 

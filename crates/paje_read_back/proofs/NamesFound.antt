@@ -9,6 +9,9 @@ use Rattle.std.proofs.lemmas.List.{length-drop}
 use Rattle.std.proofs.lemmas.List.Elements.{recursion_from_All}
 use Rattle.std.proofs.lemmas.List.FromFn.{length-enumerate_from}
 use Rattle.std.proofs.lemmas.Option.{none-some, same_Some, slice_get-map, slice_get_within}
+use Rattle.list_lemmas.proofs.Each.{all_append, all_mapped}
+use Rattle.list_lemmas.proofs.Maps.{enumerate-values}
+use Rattle.list_lemmas.proofs.Options.{cond_unless}
 use Rattle.trace_base.specs.declared.names.Container.{Container}
 use Rattle.trace_base.specs.declared.text.TraceText.{TraceText}
 use Rattle.paje_defs.specs.declared.event_name.EventName.{EventName}
@@ -21,11 +24,9 @@ use Rattle.paje_lines.specs.Values.{value_at, values_in}
 use Rattle.paje_print.specs.Canonical.{IsCanonical, root_until}
 use Rattle.paje_print.specs.CanonicalText.{placed_containers}
 use Rattle.paje_print.specs.WrittenNumbers.{container_alias, link_type_alias, state_type_alias}
-use Rattle.paje_legal.proofs.Lists.{all_joined}
-use Rattle.trace_base.proofs.Order.{all_mapped}
 use Rattle.paje_read_back.specs.ToldLines.{declarations_told}
 use Rattle.paje_read_back.proofs.DeclaredContainers.{container-found, containers-kept}
-use Rattle.paje_read_back.proofs.DeclaredLines.{NoneIs, none-told, none-unless, values-of-numbered}
+use Rattle.paje_read_back.proofs.DeclaredLines.{NoneIs, none-told}
 use Rattle.paje_read_back.proofs.DeclaredTypes.{declares_type, kind-found, link_kind-found, types-kept}
 use Rattle.paje_read_back.proofs.DeclaredUnrefused.{Declares, declarations-each, declared}
 use Rattle.paje_read_back.proofs.FindsNames.{DeclaresNothing, FindsNames, declares_nothing}
@@ -82,7 +83,7 @@ declarations-no_value t = declarations-each t (λ l. defines_value l.event ≡ f
 
 none_valued : (lines : List EventLine) → NoneIs (λ l. defines_value l.event) lines → values_in lines ≡ []
 none_valued lines none = none-told value_at (λ l. defines_value l.event)
-    (λ before line never. none-unless (defines_value line.event) _ never) [] lines none
+    (λ before line never. cond_unless (defines_value line.event) _ never) [] lines none
 
 -- ---- the containers
 
@@ -100,7 +101,7 @@ whole_by : {X : Type 0} (f : Container → X) (cs : List Container) (root : Cont
     ≡ map f cs
 whole_by f [] root is = absurd (none-some root is)
 whole_by f (c ∷ cs) root is = ap (λ c. f c ∷ map (λ (p : ℕ × Container). f p.1) (enumerate_from 1 cs))
-    (sym (same_Some c root is)) ∙ ap (λ xs. f c ∷ xs) (values-of-numbered f 1 cs)
+    (sym (same_Some c root is)) ∙ ap (λ xs. f c ∷ xs) (enumerate-values f 1 cs)
 
 pub starts-are : (t : TraceText) (before : List EventLine) → IsCanonical t → Declares t before
     → map (λ c. c.start) (containers_in before) ≡ map (λ c. c.start) t.names.containers
@@ -170,5 +171,5 @@ finds-names t is rest nothing =
     let each = recursion_from_All DeclaresNothing rest nothing in
     finds-declared t (declarations_told t ++ rest) is
     (declares-kept t (declarations_told t) rest each (declared t is).declares)
-    (all_joined (λ l. defines_value l.event ≡ false) (declarations_told t) rest (declarations-no_value t)
+    (all_append (λ l. defines_value l.event ≡ false) (declarations_told t) rest (declarations-no_value t)
     (no-value rest each))

@@ -1,11 +1,13 @@
 -- The names that a canonical text says are those of the trace: its types and its containers.
-use Rattle.std.proofs.Common.{◌≡◌, ℕ, suc, ◌+◌, List, [], ◌∷◌, ◌++◌, filter, length, map, slice_get, Bool}
+use Rattle.std.proofs.Common.{◌≡◌, ℕ, ◌+◌, List, [], ◌∷◌, ◌++◌, filter, length, map, slice_get, Bool}
 use Rattle.std.proofs.Common.{true, false, cond, Option, Some, None, refl, sym, ◌∙◌, ap, ap₂}
 use Rattle.std.specs.List.{enumerate_from}
 use Rattle.std.specs.Option.{option_map}
 use Rattle.std.proofs.lemmas.List.{append-nil, map-append}
 use Rattle.std.proofs.lemmas.List.Elements.{filter-append}
 use Rattle.std.proofs.lemmas.Option.{none-some, same_Some, slice_get-map}
+use Rattle.list_lemmas.proofs.Maps.{enumerate-same}
+use Rattle.list_lemmas.proofs.Positions.{lists_same}
 use Rattle.trace_base.specs.declared.names.Container.{Container}
 use Rattle.trace_base.specs.declared.text.TraceText.{TraceText}
 use Rattle.paje_defs.specs.declared.role.Role.TheVariants as roles
@@ -16,11 +18,11 @@ use Rattle.paje_lines.specs.Text.{container_of, containers_of}
 use Rattle.paje_lines.specs.Types.{kinds_in, link_kinds_in}
 use Rattle.paje_print.specs.Canonical.{IsCanonical}
 use Rattle.paje_print.specs.CanonicalText.{placed_containers}
-use Rattle.paje_legal.proofs.Containers.{containers-get}
+use Rattle.paje_lines.proofs.Containers.{containers-get}
 use Rattle.paje_read_back.specs.ToldLines.{create_told, declarations_told, first_told, link_type_told}
 use Rattle.paje_read_back.specs.ToldLines.{process_type_told}
 use Rattle.paje_read_back.specs.ToldLines.{state_type_told, told_lines}
-use Rattle.paje_read_back.proofs.DeclaredLines.{none-picked, values-of-numbered}
+use Rattle.paje_read_back.proofs.DeclaredLines.{none-picked}
 use Rattle.paje_read_back.proofs.DeclaredParts.{only-declared}
 use Rattle.paje_read_back.proofs.DeclaredUnrefused.{Declares, container_lines, declarations-parts, kind_lines}
 use Rattle.paje_read_back.proofs.DeclaredUnrefused.{kinds_told, link_kind_lines, link_kinds_told}
@@ -54,13 +56,6 @@ picked-all p told passes names n (k ∷ ks) =
     (filter p (from (n + 1) (map told ks))))) (passes k n)
     ∙ ap₂ (λ x xs. x ∷ xs) (names k n) (picked-all p told passes names (n + 1) ks)
 
-same-names : (xs : List (List ℕ)) → map (λ (k : ℕ × List ℕ). k.1) (enumerate_from 0 xs) ≡ xs
-same-names xs = values-of-numbered (λ x. x) 0 xs ∙ as-they-are xs
-  where
-    as-they-are : (xs : List (List ℕ)) → map (λ x. x) xs ≡ xs
-    as-they-are [] = refl
-    as-they-are (x ∷ xs) = ap (λ ys. x ∷ ys) (as-they-are xs)
-
 -- those of the declarations
 picked-declared : (t : TraceText) (p : EventLine → Bool) (kinds link_kinds : List (List ℕ))
     → ((n : ℕ) → p (process_type_told n) ≡ false)
@@ -87,7 +82,7 @@ kinds-said t is =
     (λ l nothing. no-state_type l.event nothing))
     ∙ (picked-declared t (λ l. is_state_type l.event) t.names.kinds [] (λ n. refl)
     (picked-all (λ l. is_state_type l.event) state_type_told (λ k n. refl) (λ k n. refl) (first_told + 1)
-    (enumerate_from 0 t.names.kinds) ∙ same-names t.names.kinds)
+    (enumerate_from 0 t.names.kinds) ∙ enumerate-same t.names.kinds)
     (picked-none (λ l. is_state_type l.event) link_type_told (λ k n. refl)
     (first_told + 1 + length (kinds_told t)) (enumerate_from 0 t.names.link_kinds)) (λ c n. refl)
     ∙ append-nil t.names.kinds)
@@ -101,16 +96,9 @@ link-kinds-said t is =
     (enumerate_from 0 t.names.kinds))
     (picked-all (λ l. is_link_type l.event) link_type_told (λ k n. refl) (λ k n. refl)
     (first_told + 1 + length (kinds_told t)) (enumerate_from 0 t.names.link_kinds)
-    ∙ same-names t.names.link_kinds) (λ c n. refl)
+    ∙ enumerate-same t.names.link_kinds) (λ c n. refl)
 
 -- ---- the containers
-
-lists-same : {X : Type 0} (xs ys : List X) → ((k : ℕ) → slice_get xs k ≡ slice_get ys k) → xs ≡ ys
-lists-same [] [] same = refl
-lists-same [] (y ∷ ys) same = absurd (none-some y (same 0))
-lists-same (x ∷ xs) [] same = absurd (none-some x (sym (same 0)))
-lists-same (x ∷ xs) (y ∷ ys) same = ap₂ (λ z zs. z ∷ zs) (same_Some x y (same 0))
-    (lists-same xs ys (λ k. same (suc k)))
 
 abbrev named_from : List ℕ → ℕ → ℕ → Container
 named_from name start end = record { name = name; start = start; end = end }
@@ -130,7 +118,7 @@ container-said lines k (Some d) (Some c) names starts ends =
     (ends c refl)
 
 pub containers-said : (t : TraceText) → IsCanonical t → containers_of (told_lines t) ≡ t.names.containers
-containers-said t is = lists-same (containers_of (told_lines t)) t.names.containers (λ k.
+containers-said t is = lists_same (containers_of (told_lines t)) t.names.containers (λ k.
     containers-get (told_lines t) k ∙ container-said (told_lines t) k
     (slice_get (containers_in (told_lines t)) k) (slice_get t.names.containers k)
     (sym (slice_get-map (λ d. d.entity.name) (containers_in (told_lines t)) k)

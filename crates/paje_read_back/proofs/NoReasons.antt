@@ -1,5 +1,5 @@
 -- Where no reason to refuse a line holds.
-use Rattle.std.proofs.Common.{◌≡◌, ℕ, ◌<◌, ◌&&◌, List, [], ◌∷◌, Bool, true, false, cond}
+use Rattle.std.proofs.Common.{◌≡◌, ℕ, ◌<◌, List, [], ◌∷◌, Bool, false}
 use Rattle.std.proofs.Common.{Option, Some, None, nat_le, refl, ap}
 use Rattle.std.specs.List.{AllByRecursion}
 use Rattle.std.specs.Option.{option_map}
@@ -8,7 +8,7 @@ use Rattle.paje_lines.specs.Reasons.{full, limit_of}
 use Rattle.paje_lines.specs.declared.model_fault.ModelFault.TheVariants.{TooMany}
 use Rattle.paje_lines.specs.declared.what.What.{What}
 use Rattle.std.proofs.Common.{◌≡◌, ℕ, ◌<◌, List, [], ◌∷◌}
-use Rattle.std.proofs.Common.{find, Bool, true, false, cond}
+use Rattle.std.proofs.Common.{find, Bool, false}
 use Rattle.std.proofs.Common.{Option, Some, None, refl, ap}
 use Rattle.std.specs.Option.{option_map}
 use Rattle.std.proofs.lemmas.Bool.{lt-leb}
@@ -27,14 +27,6 @@ all_none (Some fault ∷ reasons) all = all.0
 
 pub unless : {F : Type 0} (b : Bool) (fault : F) → b ≡ false → when b fault ≡ None
 unless b fault e = ap (λ b. when b fault) e
-
-pub not_both : (b c : Bool) → (b ≡ true → c ≡ false) → (b && c) ≡ false
-not_both true c fails = fails refl
-not_both false c fails = refl
-
-pub none_if : {F : Type 0} (b : Bool) (o : Option F) → (b ≡ true → o ≡ None) → cond b o None ≡ None
-none_if true o none = none refl
-none_if false o none = refl
 
 -- ---- room
 

@@ -1,12 +1,12 @@
 -- Lines in a row: their numbers, and what comes before each.
 use Rattle.std.proofs.Common.{◌≡◌, ℕ, ◌+◌, List, [], ◌∷◌, ◌++◌, map, length, sym, ◌∙◌, ap}
 use Rattle.std.proofs.Common.{arith}
-use Rattle.std.specs.List.{AllByRecursion, enumerate_from}
+use Rattle.std.specs.List.{AllByRecursion}
 use Rattle.std.proofs.lemmas.List.{append-nil, append_assoc}
+use Rattle.list_lemmas.proofs.Each.{all_made, any_made}
 use Rattle.paje_defs.specs.Refusals.{Placed, placed_behind}
 use Rattle.paje_lines.specs.EventLine.{EventLine}
 use Rattle.paje_lines.specs.Examples.{Unnumbered, from}
-use Rattle.paje_read_back.proofs.AllItems.{all_made, any_made}
 
 -- ---- joined lists
 
@@ -15,12 +15,6 @@ pub from-append : (n : ℕ) (xs ys : List Unnumbered) → from n (xs ++ ys)
 from-append n [] ys = ap (λ m. from m ys) (omega arith)
 from-append n (x ∷ xs) ys = ap (λ ls. x n ∷ ls) (from-append (n + 1) xs ys
     ∙ ap (λ m. from (n + 1) xs ++ from m ys) (omega arith))
-
-pub enumerate-append : {X : Type 0} (n : ℕ) (xs ys : List X) → enumerate_from n (xs ++ ys)
-    ≡ enumerate_from n xs ++ enumerate_from (n + length xs) ys
-enumerate-append n [] ys = ap (λ k. enumerate_from k ys) (omega arith)
-enumerate-append n (x ∷ xs) ys = ap (λ rest. (n, x) ∷ rest) (enumerate-append (n + 1) xs ys
-    ∙ ap (λ k. enumerate_from (n + 1) xs ++ enumerate_from k ys) (omega arith))
 
 pub placed-append : {X : Type 0} (before xs ys : List X) → placed_behind before (xs ++ ys)
     ≡ placed_behind before xs ++ placed_behind (before ++ xs) ys

@@ -3,52 +3,23 @@ use Rattle.std.proofs.Common.{◌≡◌, ℕ, ◌+◌, ◌-◌, ◌*◌, ◌/◌
 use Rattle.std.proofs.Common.{◌∷◌, ◌++◌, length, replicate, true, false, cond, Some, None, Ok, inl, refl}
 use Rattle.std.proofs.Common.{sym, ◌∙◌, ap, arith}
 use Rattle.std.specs.Fmt.{decimal}
-use Rattle.std.specs.Char.{digit_value, is_ascii_digit}
-use Rattle.std.specs.List.{list_all}
-use Rattle.std.specs.Str.Parse.{AllDigits, digits_value, digits_value_after}
-use Rattle.std.proofs.Math.Nat.{pow-suc}
+use Rattle.std.specs.Char.{is_ascii_digit}
+use Rattle.std.specs.Str.Parse.{AllDigits, digits_value}
 use Rattle.std.proofs.lemmas.Bool.{le-ltb, lt-ltb, le-leb}
 use Rattle.std.proofs.lemmas.Bool.Decides.{nat_tests}
 use Rattle.std.proofs.lemmas.Fmt.{decimal_is_IsNumeral, length-decimal-le}
 use Rattle.std.proofs.lemmas.List.{append-nil, length-append, length-replicate}
 use Rattle.std.proofs.lemmas.Nat.{div-add-mod'}
+use Rattle.list_lemmas.proofs.Digits.{digit_is, value-append, value-zeros}
 use Rattle.trace_base.specs.declared.limits.TheConstants.{MAX_TIME}
 use Rattle.paje_lex.specs.DateGrammar.{AreDigits, Date, IsDate, date_text, whole_nanoseconds}
 use Rattle.paje_lex.specs.DateReading.{date_of}
 use Rattle.paje_lex.proofs.DateLaws.{date_only, digits_append}
+use Rattle.paje_lex.proofs.DateLaws.{all_true}
 use Rattle.paje_defs.specs.Numbers.{below, plain_size, size_of}
 use Rattle.paje_print.specs.WrittenNumbers.{seconds_text, zero_padded}
 
--- ---- the value of digits
-
-after-append : (n : ℕ) (xs ys : List ℕ) → digits_value_after 10 n (xs ++ ys) ≡ digits_value_after 10
-    (digits_value_after 10 n xs) ys
-after-append n [] ys = refl
-after-append n (x ∷ xs) ys = after-append (n * 10 + digit_value x) xs ys
-
-one_more : (n digit count value first : ℕ) → first ≡ (0 * 10 + digit) * 10 ^ count + value
-    → (n * 10 + digit) * 10 ^ count + value ≡ n * 10 ^ suc count + first
-one_more n digit count value first is = rw (pow-suc 10 count) (omega (arith, is))
-
-value-after : (n : ℕ) (ds : List ℕ) → digits_value_after 10 n ds ≡ n * 10 ^ length ds + digits_value 10 ds
-value-after n [] = omega arith
-value-after n (d ∷ ds) =
-    let v = digit_value d in
-    value-after (n * 10 + v) ds
-    ∙ one_more n v (length ds) (digits_value 10 ds) _ (value-after (0 * 10 + v) ds)
-
-value-append : (xs ys : List ℕ) → digits_value 10 (xs ++ ys) ≡ digits_value 10 xs * 10 ^ length ys
-    + digits_value 10 ys
-value-append xs ys = after-append 0 xs ys ∙ value-after (digits_value 10 xs) ys
-
-value-zeros : (count : ℕ) (ds : List ℕ) → digits_value 10 (replicate count 48 ++ ds) ≡ digits_value 10 ds
-value-zeros zero ds = refl
-value-zeros (suc count) ds = value-zeros count ds
-
 -- ---- digits
-
-digit_is : (byte : ℕ) → digit_value byte < 10 → is_ascii_digit byte ≡ true
-digit_is byte is = grind (arith, nat_tests, is)
 
 are-digits : (ds : List ℕ) → AllDigits 10 ds → AreDigits ds
 are-digits [] all = tt
@@ -57,10 +28,6 @@ are-digits (d ∷ ds) (is, all) = (digit_is d is, are-digits ds all)
 are-zeros : (count : ℕ) → AreDigits (replicate count 48)
 are-zeros zero = tt
 are-zeros (suc count) = (refl, are-zeros count)
-
-all-digits : (ds : List ℕ) → AreDigits ds → list_all is_ascii_digit ds ≡ true
-all-digits [] are = refl
-all-digits (d ∷ ds) (is, are) = rw is (all-digits ds are)
 
 -- ---- a number with zeros before it
 
@@ -146,7 +113,7 @@ plain-digits : (ds : List ℕ) → AreDigits ds → 0 < length ds → length ds 
     → plain_size ds ≡ digits_value 10 ds
 plain-digits ds are some short small = rw (
   le-leb (length ds) 19 short,
-  all-digits ds are,
+  all_true ds are,
   lt-ltb 0 (length ds) some,
   lt-ltb (digits_value 10 ds) (2 ^ 64) (omega arith),
   lt-ltb (digits_value 10 ds) (2 ^ 63) small,

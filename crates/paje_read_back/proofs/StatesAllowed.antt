@@ -4,6 +4,8 @@ use Rattle.std.proofs.Common.{Option, Some, None, is_some, is_none, nat_le, nat_
 use Rattle.std.specs.Option.{option_and_then, option_map}
 use Rattle.std.proofs.lemmas.Bool.{eqb-true, false_from_ne_true, leb-true, ltb-true}
 use Rattle.std.proofs.lemmas.Option.{none-some}
+use Rattle.list_lemmas.proofs.Booleans.{and_apart}
+use Rattle.list_lemmas.proofs.Options.{cond_none_if}
 use Rattle.trace_base.specs.declared.limits.TheConstants.{MAX_FUNCTIONS, MAX_OPEN_CALLS, MAX_STATE_EVENTS}
 use Rattle.trace_base.specs.declared.limits.TheConstants.{MAX_TRACKS}
 use Rattle.trace_base.specs.declared.names.Track.{Track}
@@ -20,7 +22,7 @@ use Rattle.paje_lines.specs.declared.model_fault.ModelFault.TheVariants.{Unknown
 use Rattle.paje_lines.specs.declared.what.What.TheVariants as what
 use Rattle.paje_legal.proofs.StreamTracks.{Finds}
 use Rattle.paje_read_back.proofs.FindsNames.{found-track}
-use Rattle.paje_read_back.proofs.NoReasons.{all_none, none_if, not-full, not_both, unless}
+use Rattle.paje_read_back.proofs.NoReasons.{all_none, not-full, unless}
 
 -- ---- on its track
 
@@ -66,23 +68,23 @@ met-none line m lets = all_none (destroyed_reason m.destruction
 
     some : when (pops line.event && (m.open_calls == 0)) EmptyPop ≡ None
     some = unless (pops line.event && (m.open_calls == 0)) EmptyPop
-        (not_both (pops line.event) (m.open_calls == 0) (λ is. false_from_ne_true (m.open_calls == 0) (λ e.
+        (and_apart (pops line.event) (m.open_calls == 0) (λ is. false_from_ne_true (m.open_calls == 0) (λ e.
         let open_there = lets.some_open is in
         let none = eqb-true m.open_calls 0 e in absurd (omega (arith, open_there, none)))))
 
     room : when (pushes line.event && nat_le MAX_OPEN_CALLS m.open_calls) Deep ≡ None
     room = unless (pushes line.event && nat_le MAX_OPEN_CALLS m.open_calls) Deep
-        (not_both (pushes line.event) (nat_le MAX_OPEN_CALLS m.open_calls) (λ is.
+        (and_apart (pushes line.event) (nat_le MAX_OPEN_CALLS m.open_calls) (λ is.
         false_from_ne_true (nat_le MAX_OPEN_CALLS m.open_calls) (λ e.
         let below = lets.more_room is in
         let reached = leb-true MAX_OPEN_CALLS m.open_calls e in absurd (omega (arith, below, reached)))))
 
     tracks : cond m.is_new_track (full what.Tracks m.tracks) None ≡ None
-    tracks = none_if m.is_new_track (full what.Tracks m.tracks) (λ is. not-full what.Tracks m.tracks
+    tracks = cond_none_if m.is_new_track (full what.Tracks m.tracks) (λ is. not-full what.Tracks m.tracks
         (lets.tracks is))
 
     functions : cond m.is_new_function (full what.Functions m.functions) None ≡ None
-    functions = none_if m.is_new_function (full what.Functions m.functions)
+    functions = cond_none_if m.is_new_function (full what.Functions m.functions)
         (λ is. not-full what.Functions m.functions (lets.functions is))
 
 -- ---- the line

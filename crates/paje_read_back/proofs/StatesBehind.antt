@@ -22,9 +22,9 @@ use Rattle.paje_lines.specs.EventLine.{EventLine, destroys, is_state_event}
 use Rattle.paje_lines.specs.Reasons.{is_new_function}
 use Rattle.paje_lines.specs.States.{entered_text, functions_entered, is_same, last_time, track_at}
 use Rattle.paje_lines.specs.Values.{text_among, value_text}
-use Rattle.paje_legal.proofs.Containers.{destruction-more}
+use Rattle.paje_lines.proofs.Containers.{destruction-more}
 use Rattle.paje_legal.proofs.StreamTracks.{Finds}
-use Rattle.paje_legal.proofs.Tracks.{tells_track}
+use Rattle.paje_lines.proofs.Tracks.{tells_track}
 use Rattle.paje_print.specs.CanonicalText.{text_of_function}
 use Rattle.paje_read_back.specs.ToldLines.{declarations_told}
 use Rattle.paje_read_back.proofs.FindsNames.{DeclaresNothing, EndsInTime, FindsNames, KeepsFinding}

@@ -9,6 +9,8 @@ use Rattle.std.specs.Str.{bytes_eq}
 use Rattle.std.proofs.lemmas.Bool.{true≢false}
 use Rattle.std.proofs.lemmas.List.{append-nil, append_assoc}
 use Rattle.std.proofs.lemmas.List.Elements.{All-cons, All-head, All-nil, All-tail}
+use Rattle.list_lemmas.proofs.Distinct.{AreApart, same_swap}
+use Rattle.list_lemmas.proofs.Each.{all_mapped, all_unmap}
 use Rattle.trace_base.specs.declared.limits.TheConstants.{MAX_FUNCTIONS, MAX_OPEN_CALLS, MAX_STATE_EVENTS}
 use Rattle.trace_base.specs.declared.limits.TheConstants.{MAX_TRACKS}
 use Rattle.trace_base.specs.declared.names.Container.{Container}
@@ -27,22 +29,20 @@ use Rattle.paje_lines.specs.States.{is_same, last_time, open_behind, open_calls,
 use Rattle.paje_lines.specs.States.{track_at}
 use Rattle.paje_lines.specs.States.{entered_text, tracks_in}
 use Rattle.paje_lines.specs.Values.{value_text}
-use Rattle.paje_legal.proofs.StreamCalls.{AreEntered, Opens, opens-cleared, opens-popped, opens-pushed}
+use Rattle.paje_lines.proofs.StreamCalls.{AreEntered, Opens, opens-cleared, opens-popped, opens-pushed}
 use Rattle.paje_legal.proofs.StreamRuns.{IsNumbered, Runs}
 use Rattle.paje_legal.proofs.StreamTracks.{Finds}
+use Rattle.paje_legal.proofs.StreamRuns.{runs-order}
 use Rattle.paje_print.specs.CanonicalText.{text_of_function}
 use Rattle.paje_read_back.specs.ToldLines.{declarations_told, reset_told, state_told, track_told}
-use Rattle.paje_read_back.proofs.AllItems.{all_unmade}
 use Rattle.paje_read_back.proofs.FindsNames.{FindsNames, KeepsFinding, finds-track}
 use Rattle.paje_read_back.proofs.StatesAllowed.{state-unrefused}
 use Rattle.paje_read_back.proofs.StatesBehind.{Behind, IsLineOfTrack, at-track, behind-more, function-member}
 use Rattle.paje_read_back.proofs.StatesBehind.{names-behind, new-function-room, own-text}
 use Rattle.paje_read_back.proofs.StatesMore.{events-next, last-next, states-counted, states-off, tracks-few}
-use Rattle.paje_read_back.proofs.StatesMore.{tracks-known, tracks-same, turned}
+use Rattle.paje_read_back.proofs.StatesMore.{tracks-known, tracks-same}
 use Rattle.paje_read_back.proofs.StatesTold.{TellsTrack, count_of_lines}
-use Rattle.paje_legal.proofs.Tracks.{tells_track}
-use Rattle.trace_base.proofs.Order.{all_mapped}
-use Rattle.paje_legal.proofs.DistinctItems.{AreApart}
+use Rattle.paje_lines.proofs.Tracks.{tells_track}
 
 -- ---- lines that are let through
 
@@ -81,8 +81,8 @@ off-others : (track : Track) (ps : List (Track × TrackStream))
     → AllByRecursion (λ u. is_same track u ≡ false) (map (λ p. p.0) ps) → AreOff track ps
 off-others track ps apart =
     all_mapped (λ q. is_same track q.0 ≡ false) (λ q. is_same q.0 track ≡ false)
-    (λ q e. turned is_same tells_track q.0 track ∙ e) ps
-    (all_unmade (λ u. is_same track u ≡ false) (λ q. q.0) ps apart)
+    (λ q e. same_swap is_same tells_track q.0 track ∙ e) ps
+    (all_unmap (λ u. is_same track u ≡ false) (λ q. q.0) ps apart)
 
 still-unseen : (before : List EventLine) (line : EventLine) (track : Track)
     → track_at (record { before = before; line = line }) ≡ Some track → (ps : List (Track × TrackStream))
@@ -169,13 +169,6 @@ event-none t before line track container last calls lines ps few on is in_order 
 
 -- ---- the lines of a track
 
-runs-up : (es : List Event) (a n b m : ℕ) → Runs a n es b m → a ≤ b
-runs-up [] a n b m (order, same) = order
-runs-up (Enter f time ∷ es) a n b m (order, room, later) =
-    let up = runs-up es time (n + 1) b m later in omega (arith, order, up)
-runs-up (Leave time ∷ es) a n b m (order, some, later) =
-    let up = runs-up es time (n - 1) b m later in omega (arith, order, up)
-
 -- the line that makes it known, and those of its events
 reset-is : (t : TraceText) (before : List EventLine) (p : Track × TrackStream) (n : ℕ) → FindsNames t before
     → (tells : TellsTrack t.names p)
@@ -185,7 +178,7 @@ reset-is t before p n names tells = record {
   finds = finds-track t before (reset_told p.0 p.1.start n) p.0 names (tells.exists, tells.kind) refl refl;
   there = tells.there;
   in_time =
-      let up = runs-up p.1.events p.1.start 0 p.1.end 0 tells.runs in
+      let up = runs-order p.1.events p.1.start 0 p.1.end 0 tells.runs in
       let ends = tells.ends in
       omega (arith, up, ends);
   entered = tt;
@@ -250,7 +243,7 @@ events-passed t finds few p tells ps off next (Enter f time ∷ es) before n las
     numbered on =
     let line = state_told t.names.functions p.0 (Enter f time) n in
     let is = enter-is t before p f time n (names-behind t finds before on.behind) tells
-    (runs-up es time (calls + 1) p.1.end 0 later)
+    (runs-order es time (calls + 1) p.1.end 0 later)
     (All-head (IsNumbered (length t.names.functions)) (Enter f time) es numbered) in
     let opens = opens-pushed (map (λ p. p.line.event) (states_of before p.0)) events.PushState refl refl refl
     on.entered in
@@ -267,7 +260,7 @@ events-passed t finds few p tells ps off next (Leave time ∷ es) before n last 
     numbered on =
     let line = state_told t.names.functions p.0 (Leave time) n in
     let is = leave-is t before p time n (names-behind t finds before on.behind) tells
-    (runs-up es time (calls - 1) p.1.end 0 later) in
+    (runs-order es time (calls - 1) p.1.end 0 later) in
     let calls_are = on.calls_are in
     let opens = opens-popped (map (λ p. p.line.event) (states_of before p.0)) events.PopState refl refl refl
     (omega (arith, some, calls_are)) in

@@ -2,20 +2,21 @@
 use Rattle.std.proofs.Common.{◌≡◌, ℕ, ◌+◌, ◌≤◌, ◌<◌, ◌||◌, List, [], ◌∷◌, ◌++◌, Bool, true, false, cond}
 use Rattle.std.proofs.Common.{Option, Some, None, IfSome, filter_map, length, map, refl, sym, ap, ap₂, subst}
 use Rattle.std.proofs.Common.{◌∙◌, arith}
-use Rattle.std.specs.Prelude.{All}
-use Rattle.std.specs.List.{IsDistinct, last_or, list_any}
+use Rattle.std.specs.List.{last_or, list_any}
 use Rattle.std.specs.Option.{option_map_or}
-use Rattle.std.specs.Cmp.{IsEquivalence}
 use Rattle.std.specs.Set.{is_member}
 use Rattle.std.specs.Str.{bytes_eq}
-use Rattle.std.proofs.lemmas.Bool.{true≢false, or_parts}
+use Rattle.std.proofs.lemmas.Bool.{true≢false}
 use Rattle.std.proofs.lemmas.List.{append-nil, length-append, map_push}
-use Rattle.std.proofs.lemmas.List.Elements.{All-cons, All-nil, All-weaker, recursion_from_All}
+use Rattle.std.proofs.lemmas.List.Elements.{All-weaker, recursion_from_All}
 use Rattle.std.proofs.lemmas.List.Folds.{list_any-append, list_any_none}
 use Rattle.std.proofs.lemmas.List.Sums.{sum_by_push}
 use Rattle.std.proofs.lemmas.Map.Keys.{IsDistinct-cons}
 use Rattle.std.proofs.lemmas.Map.Made.{length-le_from_is_member}
 use Rattle.std.proofs.lemmas.Slice.Eq.{bytes_eq-Decides}
+use Rattle.list_lemmas.proofs.All.{All-none}
+use Rattle.list_lemmas.proofs.Distinct.{TellsSame, distinct_from_apart, same_equivalence, same_swap}
+use Rattle.list_lemmas.proofs.Last.{last-push}
 use Rattle.trace_base.specs.declared.names.Track.{Track}
 use Rattle.paje_defs.specs.Refusals.{placed}
 use Rattle.paje_lines.specs.Containers.{container_start}
@@ -24,37 +25,14 @@ use Rattle.paje_lines.specs.Found.{distinct_by}
 use Rattle.paje_lines.specs.States.{entered_text, functions_entered, is_on, is_same, last_time, states_in}
 use Rattle.paje_lines.specs.States.{states_of, track_at, track_named, tracks_in}
 use Rattle.paje_lines.proofs.DifferentTexts.{different-push}
-use Rattle.paje_legal.proofs.DistinctItems.{AreApart, TellsSame, distinct_apart, new_among}
-use Rattle.paje_legal.proofs.Functions.{functions-more}
-use Rattle.paje_legal.proofs.StreamCalls.{last-push}
+use Rattle.paje_lines.proofs.DistinctItems.{distinct_apart, new_among}
+use Rattle.paje_lines.proofs.Functions.{functions-more}
 use Rattle.paje_legal.proofs.StreamLists.{All-from_distinct}
-use Rattle.paje_legal.proofs.StreamTracks.{states-kept, states-more}
-use Rattle.paje_legal.proofs.Tracks.{tells_track, tracks-more}
+use Rattle.paje_legal.proofs.StreamTracks.{states-kept}
+use Rattle.paje_lines.proofs.Tracks.{tells_track, tracks-more}
+use Rattle.paje_lines.proofs.MoreStates.{states-more}
 
 -- ---- different items
-
-none_pass : {X : Type 0} (p : X → Bool) (xs : List X) → list_any p xs ≡ false
-    → All (λ x. p x ≡ false) xs
-none_pass p [] e = All-nil (λ x. p x ≡ false)
-none_pass p (x ∷ xs) e =
-    let both = or_parts (p x) (list_any p xs) e in
-    All-cons (λ x. p x ≡ false) x xs both.0 (none_pass p xs both.1)
-
-pub turned : {X : Type 0} (same : X → X → Bool) → TellsSame same → (x y : X) → same x y ≡ same y x
-turned same tells x y = by (same x y) (same y x) refl refl
-  where
-    by : (a b : Bool) → same x y ≡ a → same y x ≡ b → a ≡ b
-    by true true e f = refl
-    by false false e f = refl
-    by true false e f = sym ((tells y x).1 (sym ((tells x y).0 e))) ∙ f
-    by false true e f = sym e ∙ (tells x y).1 (sym ((tells y x).0 f))
-
-tells-equivalence : {X : Type 0} (same : X → X → Bool) → TellsSame same → IsEquivalence same
-tells-equivalence same tells = record {
-  refl = λ x. (tells x x).1 refl;
-  symm = turned same tells;
-  congr = λ x y z e. ap (λ x. same x z) ((tells x y).0 e);
-}
 
 -- an item that one of a list equals is one of the different ones
 kept_among : {X : Type 0} (same : X → X → Bool) → TellsSame same → (xs : List X) (y : X)
@@ -65,8 +43,8 @@ kept_among same tells xs y is = by (list_any (same y) (distinct_by same xs)) ref
     by true e = refl
     by false e = sym (list_any_none (λ x. same x y) xs (All-from_distinct same (λ a b. (tells a b).0)
         (λ x. same x y ≡ false) xs (All-weaker (λ x. same y x ≡ false) (λ x. same x y ≡ false)
-        (λ x e. turned same tells x y ∙ e) (distinct_by same xs)
-        (none_pass (same y) (distinct_by same xs) e)))) ∙ is
+        (λ x e. same_swap same tells x y ∙ e) (distinct_by same xs)
+        (All-none (same y) (distinct_by same xs) e)))) ∙ is
 
 -- ---- tracks
 
@@ -221,11 +199,6 @@ members-more functions before line members one =
         ∙ different-push bytes_eq (filter_map entered_text (placed before)) text))
         (by_test text (list_any (λ x. bytes_eq x text) (filter_map entered_text (placed before))) one)
 
-different : {X : Type 0} (same : X → X → Bool) (xs : List X) → AreApart same xs → IsDistinct same xs
-unfolding IsDistinct
-different same [] apart = tt
-different same (x ∷ xs) apart = (apart.0, different same xs apart.1)
-
 -- one that isn't entered yet leaves room
 pub functions-room : (functions : List (List ℕ)) (before : List EventLine) (text : List ℕ)
     → AreMembers functions (functions_entered before) → is_member bytes_eq functions text ≡ true
@@ -234,9 +207,9 @@ pub functions-room : (functions : List (List ℕ)) (before : List EventLine) (te
 functions-room functions before text members one new =
     let entered = functions_entered before in
     let fewer : length (text ∷ entered) ≤ length functions =
-    length-le_from_is_member (tells-equivalence bytes_eq bytes_eq-Decides) (text ∷ entered) functions
+    length-le_from_is_member (same_equivalence bytes_eq bytes_eq-Decides) (text ∷ entered) functions
     (IsDistinct-cons bytes_eq text entered (recursion_from_All (λ y. bytes_eq text y ≡ false) entered
-    (none_pass (bytes_eq text) entered new)) (different bytes_eq entered
+    (All-none (bytes_eq text) entered new)) (distinct_from_apart bytes_eq entered
     (distinct_apart bytes_eq (filter_map entered_text (placed before)))))
     (joined functions (text ∷ []) entered (one_member functions text one) members) in
     omega (arith, fewer)

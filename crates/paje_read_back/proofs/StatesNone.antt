@@ -6,7 +6,8 @@ use Rattle.std.specs.Option.{option_map, option_map_or}
 use Rattle.std.specs.Str.{bytes_eq}
 use Rattle.std.proofs.lemmas.Bool.{and_left, false_from_ne_true, true≢false}
 use Rattle.std.proofs.lemmas.List.Sums.{length-filter}
-use Rattle.trace_base.proofs.Order.{all_mapped, filter_none}
+use Rattle.list_lemmas.proofs.Each.{all_mapped}
+use Rattle.list_lemmas.proofs.Filters.{filter_none}
 use Rattle.trace_base.specs.declared.names.Track.{Track}
 use Rattle.trace_base.specs.declared.text.TraceText.{TraceText}
 use Rattle.paje_defs.specs.Refusals.{placed, placed_behind}
@@ -18,7 +19,7 @@ use Rattle.paje_lines.specs.States.{entered_text, functions_entered, is_on, is_s
 use Rattle.paje_lines.specs.States.{track_at, track_named, tracks_in}
 use Rattle.paje_lines.specs.Types.{kind_named}
 use Rattle.paje_lines.specs.Values.{value_text}
-use Rattle.paje_legal.proofs.Functions.{entering}
+use Rattle.paje_lines.proofs.Functions.{entering}
 use Rattle.paje_read_back.specs.ToldLines.{declarations_told}
 use Rattle.paje_read_back.proofs.DeclaredLines.{NoneIs, none-found, none-picked, none-told}
 use Rattle.paje_read_back.proofs.DeclaredUnrefused.{declarations-each}

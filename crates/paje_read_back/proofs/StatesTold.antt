@@ -7,7 +7,8 @@ use Rattle.std.specs.Prelude.{All}
 use Rattle.std.specs.List.{AllByRecursion, zip}
 use Rattle.std.proofs.lemmas.List.Elements.{All-from_recursion, All-weaker, recursion_from_All}
 use Rattle.std.proofs.lemmas.List.Sums.{sum_by-cons}
-use Rattle.trace_base.proofs.Order.{all_mapped}
+use Rattle.list_lemmas.proofs.All.{All-untold}
+use Rattle.list_lemmas.proofs.Each.{all_both, all_left, all_mapped, all_parts, all_right}
 use Rattle.trace_base.specs.Info.{NamesExisting}
 use Rattle.trace_base.specs.Stream.{IsLegal}
 use Rattle.trace_base.specs.declared.names.Container.{Container}
@@ -17,11 +18,9 @@ use Rattle.trace_base.specs.declared.stream.Event.{Event}
 use Rattle.trace_base.specs.declared.stream.Event.TheVariants.{Enter, Leave}
 use Rattle.trace_base.specs.declared.stream.TrackStream.{TrackStream}
 use Rattle.trace_base.specs.declared.text.TraceText.{TraceText}
-use Rattle.paje_legal.proofs.StreamLists.{each-tells}
 use Rattle.paje_legal.proofs.StreamRuns.{IsNumbered, Runs}
 use Rattle.paje_print.specs.Canonical.{IsCanonical, SpansItsContainer, function_entered_by}
 use Rattle.paje_print.specs.Canonical.{state_lines_of}
-use Rattle.paje_read_back.proofs.AllItems.{all_both, all_in_parts, all_left, all_right}
 use Rattle.paje_read_back.proofs.FunctionNumbers.{IsOneOf, called_known}
 use Rattle.paje_read_back.proofs.StatesOpen.{runs-from_legal}
 
@@ -32,7 +31,7 @@ numbered-events : (functions : List (List ℕ)) (s : TrackStream)
     → All (IsNumbered (length functions)) s.events
 numbered-events functions s all =
     All-weaker (λ e. IfSome (function_entered_by e) (IsOneOf functions)) (IsNumbered (length functions)) by
-    s.events (each-tells function_entered_by (IsOneOf functions) s.events
+    s.events (All-untold function_entered_by (IsOneOf functions) s.events
     (All-from_recursion (IsOneOf functions) (filter_map function_entered_by s.events) all))
   where
     by : (e : Event) → IfSome (function_entered_by e) (IsOneOf functions) → IsNumbered (length functions) e
@@ -48,7 +47,7 @@ streams-numbered t canonical =
     let functions = t.names.functions in
     all_mapped (λ s. AllByRecursion (IsOneOf functions) (filter_map function_entered_by s.events))
     (AreNumbered (length functions)) (numbered-events functions) t.tracks
-    (all_in_parts (IsOneOf functions) (λ s. filter_map function_entered_by s.events) t.tracks
+    (all_parts (IsOneOf functions) (λ s. filter_map function_entered_by s.events) t.tracks
     (called_known t canonical))
 
 -- ---- each track, beside its stream

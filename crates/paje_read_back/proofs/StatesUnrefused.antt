@@ -8,6 +8,7 @@ use Rattle.std.specs.Option.{option_map_or}
 use Rattle.std.proofs.lemmas.Bool.{true≢false}
 use Rattle.std.proofs.lemmas.List.{append-nil}
 use Rattle.std.proofs.lemmas.List.Elements.{All-nil, recursion_from_All}
+use Rattle.list_lemmas.proofs.Each.{all_at}
 use Rattle.trace_base.specs.declared.limits.TheConstants.{MAX_STATE_EVENTS, MAX_TRACKS}
 use Rattle.trace_base.specs.declared.names.Container.{Container}
 use Rattle.trace_base.specs.declared.names.Track.{Track}
@@ -18,7 +19,6 @@ use Rattle.paje_lines.specs.Containers.{container_start}
 use Rattle.paje_lines.specs.Examples.{from}
 use Rattle.paje_lines.specs.Reasons.{event_reason_at}
 use Rattle.paje_lines.specs.States.{last_time, states_in, states_of, tracks_in}
-use Rattle.paje_legal.proofs.Lists.{found_has}
 use Rattle.paje_print.specs.Canonical.{IsCanonical, StartsBeforeItsEnd, state_lines_of}
 use Rattle.paje_read_back.specs.ToldLines.{declarations_told, states_told}
 use Rattle.paje_read_back.proofs.FindsNames.{DeclaresNothing, KeepsFinding}
@@ -34,7 +34,7 @@ use Rattle.paje_read_back.proofs.TracksSaid.{pairs_apart}
 
 starts-in-time : (t : TraceText) → IsCanonical t → (i : ℕ) (c : Container)
     → slice_get t.names.containers i ≡ Some c → c.start ≤ c.end
-starts-in-time t canonical i c there = found_has StartsBeforeItsEnd t.names.containers i c
+starts-in-time t canonical i c there = all_at StartsBeforeItsEnd t.names.containers i c
     (recursion_from_All StartsBeforeItsEnd t.names.containers canonical.intervals) there
 
 behind-declarations : (t : TraceText) → IsCanonical t → KeepsFinding t (declarations_told t)

@@ -1,9 +1,10 @@
 -- The lines of each track of a canonical trace among the told lines.
-use Rattle.std.proofs.Common.{◌≡◌, ℕ, ◌+◌, List, [], ◌∷◌, ◌++◌, map, length, Bool}
+use Rattle.std.proofs.Common.{◌≡◌, ℕ, ◌+◌, List, [], ◌∷◌, ◌++◌, map, length}
 use Rattle.std.proofs.Common.{false, sym, ◌∙◌, ap, subst}
 use Rattle.std.specs.List.{AllByRecursion}
-use Rattle.std.proofs.lemmas.Bool.{false_from_ne_true, true≢false}
-use Rattle.trace_base.proofs.Order.{filter_none}
+use Rattle.list_lemmas.proofs.Distinct.{AreApart, apart_before, apart_behind}
+use Rattle.list_lemmas.proofs.Each.{all_append, all_first, all_second}
+use Rattle.list_lemmas.proofs.Filters.{filter_none}
 use Rattle.trace_base.specs.Info.{NamesExisting}
 use Rattle.trace_base.specs.Stream.{stack_after}
 use Rattle.trace_base.specs.declared.names.Track.{Track}
@@ -13,11 +14,8 @@ use Rattle.paje_defs.specs.Refusals.{placed, placed_behind}
 use Rattle.paje_lines.specs.EventLine.{EventLine}
 use Rattle.paje_lines.specs.Examples.{Unnumbered, from}
 use Rattle.paje_lines.specs.States.{is_on, is_same, open_calls, states_of}
-use Rattle.paje_legal.proofs.DistinctItems.{AreApart, TellsSame}
-use Rattle.paje_legal.proofs.Lists.{all_joined}
-use Rattle.paje_legal.proofs.Tracks.{tells_track}
+use Rattle.paje_lines.proofs.Tracks.{tells_track}
 use Rattle.paje_read_back.specs.ToldLines.{declarations_told, track_told}
-use Rattle.paje_read_back.proofs.AllItems.{all_first, all_second, all_unmade}
 use Rattle.paje_read_back.proofs.DeclaredParts.{first_state}
 use Rattle.paje_read_back.proofs.FindsNames.{KeepsFinding, finds-later}
 use Rattle.paje_read_back.proofs.LineKinds.{IsNoState}
@@ -28,27 +26,6 @@ use Rattle.paje_read_back.proofs.TracksBlocks.{states_so_far}
 use Rattle.paje_read_back.proofs.TracksTold.{Always, after_track, before_track, lines_of_track}
 use Rattle.paje_read_back.proofs.TracksTold.{lines_of_tracks, others_off, told_around, told_until}
 use Rattle.paje_read_back.proofs.TracksTold.{track_nothing, track_number, tracks_nothing}
-
--- ---- the items around one
-
--- of items that differ, none before one is the same
-apart_before : {X Y : Type 0} (same : Y → Y → Bool) → TellsSame same → (f : X → Y) (front : List X) (x : X)
-    (back : List X) → AreApart same (map f (front ++ x ∷ back))
-    → AllByRecursion (λ y. same (f x) (f y) ≡ false) front
-apart_before same tells f [] x back apart = tt
-apart_before same tells f (y ∷ front) x back apart = (
-  false_from_ne_true (same (f x) (f y)) (λ is. true≢false (sym ((tells (f y) (f x)).1
-      (sym ((tells (f x) (f y)).0 is)))
-      ∙ (all_second (λ z. same (f y) (f z) ≡ false) front (x ∷ back)
-      (all_unmade (λ z. same (f y) z ≡ false) f (front ++ x ∷ back) apart.0)).0)),
-  apart_before same tells f front x back apart.1,
-)
-
--- nor one behind it
-apart_behind : {X Y : Type 0} (same : Y → Y → Bool) (f : X → Y) (front : List X) (x : X) (back : List X)
-    → AreApart same (map f (front ++ x ∷ back)) → AllByRecursion (λ y. same (f x) (f y) ≡ false) back
-apart_behind same f [] x back apart = all_unmade (λ z. same (f x) z ≡ false) f back apart.0
-apart_behind same f (y ∷ front) x back apart = apart_behind same f front x back apart.1
 
 -- ---- the state lines of one track
 
@@ -121,7 +98,7 @@ own_states t front p back rest around none finds =
     later = subst (AllByRecursion (λ q. is_on p.0 q ≡ false))
         (sym (ap (placed_behind (before ++ own)) (from-append next (lines_of_tracks t back) rest)
         ∙ placed-append (before ++ own) others last))
-        (all_joined (λ q. is_on p.0 q ≡ false) (placed_behind (before ++ own) others)
+        (all_append (λ q. is_on p.0 q ≡ false) (placed_behind (before ++ own) others)
         (placed_behind ((before ++ own) ++ others) last)
         (others_off t p.0 back here.1 (apart_behind is_same (λ p. p.0) front p back around.apart)
         (before ++ own) next (finds-later t before own (finds_at t front finds)

@@ -6,7 +6,9 @@ use Rattle.std.specs.Option.{option_map_or}
 use Rattle.std.proofs.lemmas.List.{append-nil}
 use Rattle.std.proofs.lemmas.List.Elements.{All-from_recursion, recursion_from_All}
 use Rattle.std.proofs.lemmas.Slice.Zip.{seconds-zip}
-use Rattle.trace_base.proofs.Order.{all_mapped}
+use Rattle.list_lemmas.proofs.Distinct.{AreApart}
+use Rattle.list_lemmas.proofs.Each.{all_both, all_mapped, all_parts, all_right, all_second, each_between}
+use Rattle.list_lemmas.proofs.Maps.{map-seconds}
 use Rattle.trace_base.specs.Info.{NamesExisting}
 use Rattle.trace_base.specs.Stream.{IsLegal}
 use Rattle.trace_base.specs.declared.names.Track.{Track}
@@ -21,10 +23,8 @@ use Rattle.paje_lines.specs.Examples.{from}
 use Rattle.paje_lines.specs.States.{function_number, open_behind, open_calls, states_of}
 use Rattle.paje_lines.specs.States.{is_same, tracks_in}
 use Rattle.paje_lines.specs.Text.{events_at, events_of, track_stream}
-use Rattle.paje_legal.proofs.DistinctItems.{AreApart}
 use Rattle.paje_print.specs.Canonical.{IsCanonical, SpansItsContainer, function_entered_by}
 use Rattle.paje_read_back.specs.ToldLines.{declarations_told, reset_told, state_told, told_lines}
-use Rattle.paje_read_back.proofs.AllItems.{all_both, all_in_parts, all_right, all_second, each_between}
 use Rattle.paje_read_back.proofs.DeclaredParts.{first_state}
 use Rattle.paje_read_back.proofs.FindsNames.{DeclaresNothing, EndsAsTold, FindsNames, KeepsFinding}
 use Rattle.paje_read_back.proofs.FindsNames.{finds-later, finds-now}
@@ -96,7 +96,7 @@ pairs_known t canonical = all_mapped Both (IsKnown t) (λ p both. record {
     (recursion_from_All (SpansItsContainer t.names) pairs canonical.spans))
     (all_right (λ s. IsLegal s × Called s) t.names.tracks t.tracks (all_both IsLegal Called t.tracks
     (recursion_from_All IsLegal t.tracks canonical.legal)
-    (all_in_parts (IsOneOf t.names.functions) called_in t.tracks (called_known t canonical)))))
+    (all_parts (IsOneOf t.names.functions) called_in t.tracks (called_known t canonical)))))
   where
     pairs : List (Track × TrackStream)
     pairs = zip t.names.tracks t.tracks
@@ -176,16 +176,11 @@ stream_back t canonical finds ends front p back is =
 
 -- ---- the streams of all
 
-seconds_made : {X Y : Type 0} (f : X → Y) (pairs : List (X × Y)) → AllByRecursion (λ p. f p.0 ≡ p.1) pairs
-    → map f (map (λ p. p.0) pairs) ≡ map (λ p. p.1) pairs
-seconds_made f [] all = refl
-seconds_made f (p ∷ pairs) all = ap₂ (λ y ys. y ∷ ys) all.0 (seconds_made f pairs all.1)
-
 pub streams-said : (t : TraceText) → IsCanonical t → KeepsFinding t (declarations_told t)
     → EndsAsTold t (told_lines t) → map (track_stream (told_lines t)) (tracks_in (told_lines t)) ≡ t.tracks
 streams-said t canonical finds ends =
     ap (map (track_stream (told_lines t))) (tracks-said t canonical finds ∙ sym (first_of_pairs t canonical))
-    ∙ (seconds_made (track_stream (told_lines t)) (zip t.names.tracks t.tracks)
+    ∙ (map-seconds (track_stream (told_lines t)) (zip t.names.tracks t.tracks)
     (each_between (λ p. track_stream (told_lines t) p.0 ≡ p.1) [] (zip t.names.tracks t.tracks)
     (stream_back t canonical finds ends))
     ∙ seconds-zip t.names.tracks t.tracks canonical.streams)

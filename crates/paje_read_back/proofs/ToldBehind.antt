@@ -6,6 +6,7 @@ use Rattle.std.specs.Option.{option_and_then, option_to_list}
 use Rattle.std.proofs.lemmas.List.{append-nil, append_assoc}
 use Rattle.std.proofs.lemmas.List.Elements.{filter_map-append}
 use Rattle.std.proofs.lemmas.Option.{none-some, same_Some}
+use Rattle.list_lemmas.proofs.Options.{none_first}
 use Rattle.paje_defs.specs.declared.begun.Begun.{Begun}
 use Rattle.paje_defs.specs.declared.event_fault.EventFault.{EventFault}
 use Rattle.paje_defs.specs.Events.{Event, told_event}
@@ -112,12 +113,6 @@ line-unrefused before so_far n line told stands so reads tell none =
     ∙ no_reason (begun_in (definition_lines before)) _ (begun-behind before stands)
     (told_why-none before so_far n (words_of line) (told_behind before (words_of line)) (told n) so
     (tells-behind before n line told stands tell) none)
-
--- the first of these isn't refused, nor is one behind it
-pub none_first : {F X : Type 0} (reason : Option F) (first : X) (later : Option X)
-    → cond (is_some reason) (Some first) later ≡ None → (reason ≡ None) × (later ≡ None)
-none_first None first later e = (refl, e)
-none_first (Some fault) first later e = absurd (none-some first (sym e))
 
 pub unrefused-behind : (before : List TextLine) (so_far : List EventLine) (n : ℕ) (lines : List WrittenLine)
     (told : List Unnumbered) → StandsBehind before → event_lines before ≡ so_far

@@ -6,6 +6,7 @@ use Rattle.std.specs.Option.{option_and_then, option_or}
 use Rattle.std.proofs.lemmas.List.{length-map, map-append}
 use Rattle.std.proofs.lemmas.List.Elements.{filter_map-append, recursion_from_All}
 use Rattle.std.proofs.lemmas.List.Folds.{find-append}
+use Rattle.list_lemmas.proofs.Maps.{enumerate-append}
 use Rattle.trace_base.specs.Stream.{time_of}
 use Rattle.trace_base.specs.declared.limits.TheConstants.{MAX_TIME}
 use Rattle.trace_base.specs.declared.names.Track.{Track}
@@ -33,7 +34,7 @@ use Rattle.paje_read_back.specs.ToldLines.{process_type_told, state_told, state_
 use Rattle.paje_read_back.specs.ToldLines.{told_lines, track_told, types_told}
 use Rattle.paje_read_back.proofs.DefinedLines.{definitions_text, lines-defined, written_from}
 use Rattle.paje_read_back.proofs.DefinedText.{defined-tell_nothing, defined-unrefused}
-use Rattle.paje_read_back.proofs.NumberedLines.{enumerate-append, placed-append}
+use Rattle.paje_read_back.proofs.NumberedLines.{placed-append}
 use Rattle.paje_read_back.proofs.ToldBehind.{ReadsWords, begun-behind, stands-behind, told-behind}
 use Rattle.paje_read_back.proofs.ToldBehind.{unrefused-behind}
 use Rattle.paje_read_back.proofs.ToldKinds.{Tells, create-tells, destroy-tells, link-tells, link_type-tells}

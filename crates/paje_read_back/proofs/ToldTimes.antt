@@ -3,6 +3,7 @@ use Rattle.std.proofs.Common.{◌≤◌, drop}
 use Rattle.std.proofs.Common.{arith}
 use Rattle.std.specs.List.{AllByRecursion, zip}
 use Rattle.std.proofs.lemmas.List.Elements.{recursion_from_All}
+use Rattle.list_lemmas.proofs.Each.{all_both, all_dropped, all_enumerated, all_mapped, all_right, all_unmap}
 use Rattle.trace_base.specs.Stream.{IsLegal, time_of}
 use Rattle.trace_base.specs.declared.limits.TheConstants.{MAX_TIME}
 use Rattle.trace_base.specs.declared.messages.LinkEvent.{LinkEvent}
@@ -11,9 +12,7 @@ use Rattle.trace_base.specs.declared.stream.TrackStream.{TrackStream}
 use Rattle.trace_base.specs.declared.text.TraceText.{TraceText}
 use Rattle.paje_print.specs.Canonical.{HasCanonicalSize, IsCanonical}
 use Rattle.paje_print.specs.CanonicalText.{placed_containers}
-use Rattle.paje_read_back.proofs.AllItems.{all_both, all_dropped, all_enumerated, all_right, all_unmade}
 use Rattle.paje_read_back.proofs.TraceTimes.{ends-within, links-within, moments-by_end, starts-within}
-use Rattle.trace_base.proofs.Order.{all_mapped}
 
 -- ---- containers and link events
 
@@ -53,7 +52,7 @@ streams-in_time s legal =
     let limit = legal.in_time in (
       omega (arith, each.0, limit),
       all_mapped (λ e. time_of e ≤ s.end) (λ e. time_of e ≤ MAX_TIME) (λ e is. omega (arith, is, limit))
-          s.events (all_unmade (λ x. x ≤ s.end) time_of s.events each.1),
+          s.events (all_unmap (λ x. x ≤ s.end) time_of s.events each.1),
     )
 
 pub tracks-in_time : (t : TraceText) → IsCanonical t

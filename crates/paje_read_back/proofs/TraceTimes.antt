@@ -1,20 +1,18 @@
 -- No time of a trace that has a canonical text is past its end, nor a time of a stream past the stream's end.
-use Rattle.std.proofs.Common.{◌≡◌, ℕ, ◌≤◌, List, [], ◌∷◌, ◌++◌, drop, length, map, slice_get}
-use Rattle.std.proofs.Common.{Some, refl, sym, subst, arith, get_or}
+use Rattle.std.proofs.Common.{◌≡◌, ◌≤◌, List, [], ◌∷◌, drop, map, slice_get}
+use Rattle.std.proofs.Common.{Some, sym, subst, arith}
 use Rattle.std.specs.List.{AllByRecursion}
-use Rattle.std.specs.List.Sorted.{IsNonDecreasing}
-use Rattle.std.proofs.lemmas.List.{get_or_append_left, get_or_push, length-append}
 use Rattle.std.proofs.lemmas.List.Elements.{recursion_from_All}
 use Rattle.std.proofs.lemmas.Option.{same_Some}
-use Rattle.trace_base.proofs.Order.{all_mapped}
+use Rattle.list_lemmas.proofs.Each.{all_both, all_first, all_mapped, all_second, all_unmap}
+use Rattle.list_lemmas.proofs.InOrder.{before_last}
+use Rattle.list_lemmas.proofs.Sums.{each_below}
 use Rattle.trace_base.specs.Stream.{IsLegal, time_of}
 use Rattle.trace_base.specs.declared.names.Container.{Container}
 use Rattle.trace_base.specs.declared.stream.TrackStream.{TrackStream}
 use Rattle.trace_base.specs.declared.text.TraceText.{TraceText}
 use Rattle.paje_print.specs.Canonical.{IsCanonical, StartsBeforeItsEnd, last_moments}
 use Rattle.paje_print.specs.Canonical.{root_until}
-use Rattle.paje_legal.proofs.Lists.{each_below}
-use Rattle.paje_read_back.proofs.AllItems.{all_both, all_first, all_second, all_unmade}
 
 -- the ends of the containers below the root, and the times of the link events
 moments-within : (t : TraceText) → IsCanonical t → AllByRecursion (λ n. n ≤ t.names.end) (last_moments t)
@@ -22,7 +20,7 @@ moments-within t is = subst (λ end. AllByRecursion (λ n. n ≤ end) (last_mome
     (each_below 0 (last_moments t))
 
 pub links-within : (t : TraceText) → IsCanonical t → AllByRecursion (λ l. l.time ≤ t.names.end) t.links
-links-within t is = all_unmade (λ n. n ≤ t.names.end) (λ l. l.time) t.links
+links-within t is = all_unmap (λ n. n ≤ t.names.end) (λ l. l.time) t.links
     (all_second (λ n. n ≤ t.names.end) (map (λ c. c.end) (drop 1 t.names.containers))
     (map (λ l. l.time) t.links)
     (moments-within t is))
@@ -37,7 +35,7 @@ pub ends-within : (t : TraceText) → IsCanonical t
 ends-within t is = all-with_root (λ c. c.end ≤ t.names.end) t.names.containers (root_until t.names.end)
     is.root
     (omega arith)
-    (all_unmade (λ n. n ≤ t.names.end) (λ c. c.end) (drop 1 t.names.containers)
+    (all_unmap (λ n. n ≤ t.names.end) (λ c. c.end) (drop 1 t.names.containers)
     (all_first (λ n. n ≤ t.names.end) (map (λ c. c.end) (drop 1 t.names.containers))
     (map (λ l. l.time) t.links)
     (moments-within t is)))
@@ -52,15 +50,7 @@ starts-within t is = all_mapped (λ c. StartsBeforeItsEnd c × (c.end ≤ t.name
 
 -- ---- the times of a stream
 
-before-last : (xs : List ℕ) (end : ℕ) → IsNonDecreasing (xs ++ end ∷ []) → AllByRecursion (λ n. n ≤ end) xs
-before-last xs end order = recursion_from_All (λ n. n ≤ end) xs (λ k d within.
-    let count = length-append xs (end ∷ []) in
-    let last : get_or (xs ++ end ∷ []) (length xs) d ≡ end = get_or_push xs end d (length xs) refl in
-    let here : get_or (xs ++ end ∷ []) k d ≡ get_or xs k d = get_or_append_left xs (end ∷ []) d k within in
-    let ordered = order k (length xs) d (omega (arith, within)) (omega (arith, count)) in
-    omega (arith, last, here, ordered))
-
 -- no event comes behind the end of the track
 pub moments-by_end : (s : TrackStream) → IsLegal s
     → AllByRecursion (λ n. n ≤ s.end) (s.start ∷ map time_of s.events)
-moments-by_end s legal = before-last (s.start ∷ map time_of s.events) s.end legal.in_order
+moments-by_end s legal = before_last (s.start ∷ map time_of s.events) s.end legal.in_order

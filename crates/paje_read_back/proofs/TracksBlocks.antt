@@ -8,7 +8,9 @@ use Rattle.std.specs.Option.{option_map_or}
 use Rattle.std.proofs.lemmas.List.{append-nil, append_assoc, length-append}
 use Rattle.std.proofs.lemmas.List.{length-take-le}
 use Rattle.std.proofs.lemmas.List.Elements.{filter-append}
-use Rattle.trace_base.proofs.Order.{all_mapped, filter_every, filter_none}
+use Rattle.list_lemmas.proofs.Each.{all_always, all_map, all_mapped}
+use Rattle.list_lemmas.proofs.Filters.{filter_every, filter_none}
+use Rattle.list_lemmas.proofs.Fronts.{one_from_nonempty}
 use Rattle.trace_base.specs.Info.{NamesExisting}
 use Rattle.trace_base.specs.Stream.{IsLegal, stack_after, stack_step}
 use Rattle.trace_base.specs.declared.names.Track.{Track}
@@ -22,14 +24,12 @@ use Rattle.paje_defs.specs.declared.event_name.EventName.TheVariants as events
 use Rattle.paje_lines.specs.EventLine.{EventLine}
 use Rattle.paje_lines.specs.Examples.{Unnumbered, from}
 use Rattle.paje_lines.specs.States.{is_on, is_same, open_behind, open_calls, states_of, track_at}
-use Rattle.paje_legal.proofs.StreamCalls.{AreEntered, opens-cleared, opens-popped, opens-pushed}
-use Rattle.paje_legal.proofs.Tracks.{tells_track}
+use Rattle.paje_lines.proofs.StreamCalls.{AreEntered, opens-cleared, opens-popped, opens-pushed}
+use Rattle.paje_lines.proofs.Tracks.{tells_track}
 use Rattle.paje_read_back.specs.ToldLines.{reset_told, state_told}
-use Rattle.paje_read_back.proofs.AllItems.{all_always}
 use Rattle.paje_read_back.proofs.FindsNames.{DeclaresNothing, FindsNames, KeepsFinding, finds-later}
 use Rattle.paje_read_back.proofs.FindsNames.{finds-now, finds-track, found-track}
 use Rattle.paje_read_back.proofs.NumberedLines.{all_numbered, placed-append}
-use Rattle.paje_print.proofs.GeneratedLists.{all_map}
 
 -- ---- lines of a track
 
@@ -144,17 +144,13 @@ Closes stack [] = Unit {0}
 Closes stack (Enter f time ∷ es) = Closes (stack_step stack (Enter f time)) es
 Closes stack (Leave time ∷ es) = (1 ≤ length stack) × Closes (stack_step stack (Leave time)) es
 
-some_open : (stack : List ℕ) → stack ≢ [] → 1 ≤ length stack
-some_open [] is = absurd (is refl)
-some_open (f ∷ stack) is = omega arith
-
 closes_by : (es : List Event) (stack : List ℕ) → ((i time : ℕ) → slice_get es i ≡ Some (Leave time)
     → fold stack_step stack (take i es) ≢ []) → Closes stack es
 closes_by [] stack closing = tt
 closes_by (Enter f time ∷ es) stack closing = closes_by es (stack_step stack (Enter f time))
     (λ i t at. closing (suc i) t at)
 closes_by (Leave time ∷ es) stack closing = (
-  some_open stack (closing 0 time refl),
+  one_from_nonempty stack (closing 0 time refl),
   closes_by es (stack_step stack (Leave time)) (λ i t at. closing (suc i) t at),
 )
 

@@ -1,12 +1,14 @@
 -- The tracks that the told lines say.
-use Rattle.std.proofs.Common.{◌≡◌, ℕ, ◌+◌, suc, List, [], ◌∷◌, ◌++◌, map, filter, filter_map}
-use Rattle.std.proofs.Common.{length, slice_get, Bool, true, false, not, Some, refl, sym, ◌∙◌}
-use Rattle.std.proofs.Common.{ap, subst, arith, zip, drop}
+use Rattle.std.proofs.Common.{◌≡◌, ℕ, ◌+◌, List, [], ◌∷◌, ◌++◌, map, filter, filter_map}
+use Rattle.std.proofs.Common.{length, Bool, true, false, not, refl, sym, ◌∙◌}
+use Rattle.std.proofs.Common.{ap, subst, zip, drop}
 use Rattle.std.specs.List.{AllByRecursion}
-use Rattle.std.proofs.lemmas.Bool.{cond-false, false_from_ne_true, not_from_false, not_from_true}
+use Rattle.std.proofs.lemmas.Bool.{cond-false, not_from_false, not_from_true}
 use Rattle.std.proofs.lemmas.List.Elements.{filter_map-append, filter_passes, recursion_from_All}
 use Rattle.std.proofs.lemmas.Slice.Zip.{firsts-zip}
-use Rattle.trace_base.proofs.Order.{all_mapped, filter_every}
+use Rattle.list_lemmas.proofs.Distinct.{AreApart, TellsSame, apart_from_places}
+use Rattle.list_lemmas.proofs.Each.{all_left, all_mapped}
+use Rattle.list_lemmas.proofs.Filters.{filter_every}
 use Rattle.trace_base.specs.Info.{NamesExisting}
 use Rattle.trace_base.specs.declared.names.Track.{Track}
 use Rattle.trace_base.specs.declared.stream.TrackStream.{TrackStream}
@@ -16,11 +18,9 @@ use Rattle.paje_lines.specs.EventLine.{EventLine}
 use Rattle.paje_lines.specs.Examples.{Unnumbered, from}
 use Rattle.paje_lines.specs.Found.{distinct_by}
 use Rattle.paje_lines.specs.States.{is_same, track_at, tracks_in}
-use Rattle.paje_legal.proofs.DistinctItems.{AreApart, TellsSame}
-use Rattle.paje_legal.proofs.Tracks.{tells_track}
+use Rattle.paje_lines.proofs.Tracks.{tells_track}
 use Rattle.paje_print.specs.Canonical.{IsCanonical}
 use Rattle.paje_read_back.specs.ToldLines.{declarations_told, told_lines, track_told}
-use Rattle.paje_read_back.proofs.AllItems.{all_left}
 use Rattle.paje_read_back.proofs.DeclaredParts.{first_state}
 use Rattle.paje_read_back.proofs.FindsNames.{KeepsFinding, finds-later}
 use Rattle.paje_read_back.proofs.LineKinds.{IsNoState}
@@ -31,24 +31,6 @@ use Rattle.paje_read_back.proofs.TracksTold.{Always, lines_of_tracks, rest_no_st
 use Rattle.paje_read_back.proofs.TracksTold.{told_by_states, told_until, track_nothing}
 
 -- ---- items that differ
-
--- none but x is at another place than the first
-apart_by : {X : Type 0} (same : X → X → Bool) → TellsSame same → (x : X) (xs : List X)
-    → ((j : ℕ) → slice_get xs j ≡ Some x → ⊥) → AllByRecursion (λ y. same x y ≡ false) xs
-apart_by same tells x [] never = tt
-apart_by same tells x (y ∷ ys) never = (
-  false_from_ne_true (same x y) (λ is. never 0 (ap Some (sym ((tells x y).0 is)))),
-  apart_by same tells x ys (λ j at. never (suc j) at),
-)
-
--- items of which no two are the same
-apart_from_places : {X : Type 0} (same : X → X → Bool) → TellsSame same → (xs : List X)
-    → ((i j : ℕ) (x : X) → slice_get xs i ≡ Some x → slice_get xs j ≡ Some x → i ≡ j) → AreApart same xs
-apart_from_places same tells [] one = tt
-apart_from_places same tells (x ∷ xs) one = (
-  apart_by same tells x xs (λ j at. omega (arith, one 0 (suc j) x refl at)),
-  apart_from_places same tells xs (λ i j y at other. omega (arith, one (suc i) (suc j) y at other)),
-)
 
 -- an item again and again counts once
 distinct_repeated : {X Y : Type 0} (same : X → X → Bool) → TellsSame same

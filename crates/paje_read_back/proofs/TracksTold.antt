@@ -7,6 +7,7 @@ use Rattle.std.specs.List.{AllByRecursion}
 use Rattle.std.proofs.lemmas.List.{append-nil, append_assoc}
 use Rattle.std.proofs.lemmas.List.Concat.{flat_map-append}
 use Rattle.std.proofs.lemmas.List.Elements.{filter_map-append}
+use Rattle.list_lemmas.proofs.Each.{all_append, any_made}
 use Rattle.trace_base.specs.Info.{NamesExisting}
 use Rattle.trace_base.specs.declared.names.Container.{Container}
 use Rattle.trace_base.specs.declared.names.Track.{Track}
@@ -16,13 +17,11 @@ use Rattle.paje_defs.specs.Refusals.{Placed, placed, placed_behind}
 use Rattle.paje_lines.specs.EventLine.{EventLine}
 use Rattle.paje_lines.specs.Examples.{Unnumbered, from}
 use Rattle.paje_lines.specs.States.{is_on, is_same}
-use Rattle.paje_legal.proofs.Lists.{all_joined}
 use Rattle.paje_print.specs.CanonicalText.{placed_containers}
 use Rattle.paje_read_back.specs.ToldLines.{containers_told, declarations_told, destroy_told}
 use Rattle.paje_read_back.specs.ToldLines.{ends_told, first_told, link_told}
 use Rattle.paje_read_back.specs.ToldLines.{links_told, states_told}
 use Rattle.paje_read_back.specs.ToldLines.{told_lines, track_told, types_told}
-use Rattle.paje_read_back.proofs.AllItems.{any_made}
 use Rattle.paje_read_back.proofs.DeclaredParts.{first_state}
 use Rattle.paje_read_back.proofs.FindsNames.{DeclaresNothing, KeepsFinding, finds-later}
 use Rattle.paje_read_back.proofs.LineKinds.{IsLinkLine, IsNoState, link_event, link_facts}
@@ -150,7 +149,7 @@ Always P line = (n : ℕ) → P (line n)
 -- behind the state lines
 rest-each : (t : TraceText) (P : EventLine → Type 0) → ((line : EventLine) → IsLinkLine line → P line)
     → ((p : ℕ × Container) (n : ℕ) → P (destroy_told p n)) → AllByRecursion (Always P) (rest_told t)
-rest-each t P links ends = all_joined (Always P) (links_told t) (ends_told t)
+rest-each t P links ends = all_append (Always P) (links_told t) (ends_told t)
     (any_made (Always P) link_told (λ l n. links (link_told l n) (link_event l n l.starts)) t.links)
     (any_made (Always P) destroy_told ends (placed_containers t))
 
@@ -166,7 +165,7 @@ pub states_nothing : (t : TraceText) (n : ℕ) (pairs : List (Track × TrackStre
     → AllByRecursion DeclaresNothing (from n (lines_of_tracks t pairs ++ rest))
 states_nothing t n pairs rest nothing = subst (AllByRecursion DeclaresNothing)
     (sym (from-append n (lines_of_tracks t pairs) rest))
-    (all_joined DeclaresNothing (from n (lines_of_tracks t pairs))
+    (all_append DeclaresNothing (from n (lines_of_tracks t pairs))
     (from (n + length (lines_of_tracks t pairs)) rest) (tracks_nothing t n pairs)
     (all_numbered DeclaresNothing (n + length (lines_of_tracks t pairs)) rest nothing))
 
@@ -185,7 +184,7 @@ others_off t track (p ∷ pairs) existing others before n finds =
     subst (AllByRecursion (λ q. is_on track q ≡ false))
     (sym (ap (placed_behind before) (from-append n (track_told t.names.functions p) (lines_of_tracks t pairs))
     ∙ placed-append before own later))
-    (all_joined (λ q. is_on track q ≡ false) (placed_behind before own) (placed_behind (before ++ own) later)
+    (all_append (λ q. is_on track q ≡ false) (placed_behind before own) (placed_behind (before ++ own) later)
     (same-on track p.0 false others.0 (placed_behind before own) (each-on t p.0 before own finds
     (block-on t t.names.functions p.0 p.1.start n p.1.events existing.0)))
     (others_off t track pairs existing.1 others.1 (before ++ own) next

@@ -4,10 +4,10 @@ use Rattle.std.proofs.Common.{arith, codes, decimal, length, lt-ltb, mod-lt, rep
 use Rattle.std.proofs.lemmas.Bool.{cond_both}
 use Rattle.std.specs.Fmt.{digit_glyph, digits, digits_onto}
 use Rattle.std.specs.List.{AllByRecursion}
+use Rattle.list_lemmas.proofs.Each.{all_append}
 use Rattle.paje_print.specs.WrittenNumbers.{container_alias, link_type_alias, seconds_text}
 use Rattle.paje_print.specs.WrittenNumbers.{state_type_alias, zero_padded}
 use Rattle.paje_read_back.proofs.WordsWellWritten.{IsBareWord, IsWordByte, bare-bytes}
-use Rattle.paje_legal.proofs.Lists.{all_joined}
 
 -- ---- digits
 
@@ -38,7 +38,7 @@ decimal-written n =
 word-longer : (front behind : List ℕ) → IsBareWord front → AllByRecursion IsWordByte behind
     → IsBareWord (front ++ behind)
 word-longer [] behind is are = absurd is
-word-longer (b ∷ front) behind is are = all_joined IsWordByte (b ∷ front) behind is are
+word-longer (b ∷ front) behind is are = all_append IsWordByte (b ∷ front) behind is are
 
 zeros-written : (n : ℕ) → AllByRecursion IsWordByte (replicate n 48)
 zeros-written zero = tt
@@ -46,7 +46,7 @@ zeros-written (suc n) = ((omega arith, omega arith), zeros-written n)
 
 padded-written : (count n : ℕ) → AllByRecursion IsWordByte (zero_padded count n)
 padded-written count n =
-    all_joined IsWordByte (replicate (count - length (decimal n)) 48) (decimal n)
+    all_append IsWordByte (replicate (count - length (decimal n)) 48) (decimal n)
     (zeros-written (count - length (decimal n))) (bare-bytes (decimal n) (decimal-written n))
 
 pub seconds-written : (time : ℕ) → IsBareWord (seconds_text time)

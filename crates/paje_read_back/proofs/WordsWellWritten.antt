@@ -2,9 +2,9 @@
 use Rattle.std.proofs.Common.{ℕ, ◌<◌, ◌≤◌, List, [], ◌∷◌, ◌++◌, IsUtf8, IsAscii, arith, zero, suc, ne_eqb}
 use Rattle.std.specs.List.{AllByRecursion, flat_map}
 use Rattle.std.proofs.lemmas.Str.{IsUtf8-append, IsUtf8-from_ascii, IsUtf8-nil}
+use Rattle.list_lemmas.proofs.Each.{all_append}
 use Rattle.paje_print.specs.Canonical.{IsQuotable, Lacks}
 use Rattle.paje_print.specs.WrittenWords.{WrittenWord, bare, line_text, quoted, spaced_word, word_text}
-use Rattle.paje_legal.proofs.Lists.{all_joined}
 
 -- ---- words
 
@@ -41,7 +41,7 @@ word-lacks_newline : (word : WrittenWord) → IsWellWritten word → Lacks 10 (w
 word-lacks_newline (bare bytes) is = word_bytes-lack 10 bytes (omega arith) (bare-bytes bytes is)
 word-lacks_newline (quoted bytes) is = (
   ne_eqb 34 10 (λ e. omega arith),
-  all_joined _ bytes (34 ∷ []) is.no_newline (ne_eqb 34 10 (λ e. omega arith), tt),
+  all_append _ bytes (34 ∷ []) is.no_newline (ne_eqb 34 10 (λ e. omega arith), tt),
 )
 
 spaced-lack_newline : (words : List WrittenWord) → AreWellWritten words
@@ -49,14 +49,14 @@ spaced-lack_newline : (words : List WrittenWord) → AreWellWritten words
 spaced-lack_newline [] are = tt
 spaced-lack_newline (word ∷ words) (is, are) = (
   ne_eqb 32 10 (λ e. omega arith),
-  all_joined _ (word_text word) (flat_map spaced_word words) (word-lacks_newline word is)
+  all_append _ (word_text word) (flat_map spaced_word words) (word-lacks_newline word is)
       (spaced-lack_newline words are),
 )
 
 pub line-lacks_newline : (line : List WrittenWord) → AreWellWritten line → Lacks 10 (line_text line)
 line-lacks_newline [] are = tt
 line-lacks_newline (word ∷ words) (is, are) =
-    all_joined _ (word_text word) (flat_map spaced_word words) (word-lacks_newline word is)
+    all_append _ (word_text word) (flat_map spaced_word words) (word-lacks_newline word is)
     (spaced-lack_newline words are)
 
 -- ---- a line is UTF-8

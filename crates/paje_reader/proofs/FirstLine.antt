@@ -4,15 +4,13 @@ use Rattle.std.proofs.Common.{length, drop}
 use Rattle.std.proofs.Common.{not, take, refl, sym, ◌∙◌, ap, arith, get_or}
 use Rattle.std.specs.Char.{is_newline}
 use Rattle.std.specs.List.{onto_first, position_or_len, slice_split}
-use Rattle.std.proofs.lemmas.List.{drop_all, length-drop, take_all}
+use Rattle.std.proofs.lemmas.List.{drop_all}
 use Rattle.std.proofs.lemmas.List.Splits.{slice_split_first}
 use Rattle.std.proofs.lemmas.List.Sums.{position_or_len_is}
 use Rattle.memchr.specs.Find.{NoneBefore, Nowhere, Passes, is_byte}
+use Rattle.std.proofs.lemmas.Bool.{false_from_ne_true}
+use Rattle.std.proofs.lemmas.List.{take_rest}
 use Rattle.paje_reader.specs.TextLines.{bytes_of_lines, parts_as_lines}
-
-not_true : (b : Bool) → ¬ (b ≡ true) → b ≡ false
-not_true true never = absurd (never refl)
-not_true false never = refl
 
 behind_first : (x : ℕ) (line : List ℕ) (parts : List (List ℕ))
     → parts_as_lines (line ∷ onto_first x parts) ≡ line ∷ parts_as_lines (onto_first x parts)
@@ -36,12 +34,7 @@ with_parts line (x ∷ text) = by (is_newline x)
 first_at : (text : List ℕ) (at : ℕ) → at ≤ length text → Nowhere (Passes (is_byte 10) text) 0 at
     → (at < length text → is_newline (get_or text at 0) ≡ true) → position_or_len is_newline text ≡ at
 first_at text at within none passes = position_or_len_is is_newline text at 0 within
-    (λ k below. not_true (is_newline (get_or text k 0)) (none k (omega arith) below)) passes
-
-to_the_end : (text : List ℕ) (at : ℕ) → at ≤ length text
-    → take (length text - at) (drop at text) ≡ drop at text
-to_the_end text at within = take_all (length text - at) (drop at text)
-    (omega (arith, length-drop at text))
+    (λ k below. false_from_ne_true (is_newline (get_or text k 0)) (none k (omega arith) below)) passes
 
 -- where there is a newline
 pub cut_at : (text : List ℕ) (at : ℕ) → NoneBefore (Passes (is_byte 10) text) 0 (length text) at
@@ -54,8 +47,7 @@ cut_at text at none passes =
     ap parts_as_lines (slice_split_first is_newline text 0 (omega (arith, place, none.high)))
     ∙ (ap (λ n. parts_as_lines (take n text ∷ slice_split is_newline (drop (n + 1) text))) place
     ∙ (with_parts (take at text) (drop (at + 1) text)
-    ∙ ap (λ rest. take at text ∷ bytes_of_lines rest) (sym (to_the_end text (at + 1)
-    (omega (arith, none.high))))))
+    ∙ ap (λ rest. take at text ∷ bytes_of_lines rest) (sym (take_rest text (at + 1)))))
 
 -- where there is none
 one_part : (text : List ℕ) → position_or_len is_newline text ≡ length text
@@ -81,5 +73,5 @@ cut_none text some none =
     ap parts_as_lines (one_part text (first_at text (length text) (omega arith) none (λ below. absurd
     (omega (arith, below)))))
     ∙ (one_line text some
-    ∙ ap (λ rest. text ∷ bytes_of_lines rest) (sym (to_the_end text (length text) (omega arith)
+    ∙ ap (λ rest. text ∷ bytes_of_lines rest) (sym (take_rest text (length text)
     ∙ drop_all (length text) text (omega arith))))

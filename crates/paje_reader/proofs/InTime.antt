@@ -1,12 +1,11 @@
 -- No event line of a text is past the greatest time.
-use Rattle.std.proofs.Common.{◌≡◌, ℕ, ◌≤◌, All, Bool, true, false, List, [], ◌∷◌, filter_map, length}
+use Rattle.std.proofs.Common.{◌≡◌, ℕ, ◌≤◌, Bool, true, false, List, length}
 use Rattle.std.proofs.Common.{nat_lt}
 use Rattle.std.proofs.Common.{slice_get, Option, Some, None, IfSome, Result, Ok, Err, cond, refl}
 use Rattle.std.proofs.Common.{ap, subst}
 use Rattle.std.proofs.Common.{arith}
-use Rattle.std.specs.List.{cons_option}
 use Rattle.std.specs.Option.{option_and_then}
-use Rattle.std.proofs.lemmas.List.Elements.{All-cons, All-nil}
+use Rattle.list_lemmas.proofs.All.{All-told}
 use Rattle.trace_base.specs.declared.limits.TheConstants.{MAX_TIME}
 use Rattle.paje_lex.specs.declared.date_fault.DateFault.{DateFault}
 use Rattle.paje_lex.proofs.DatesInTime.{date-in_time}
@@ -74,15 +73,6 @@ behind_in_time before number (tells words) = line_in_time number words (told_beh
     (numbered_in_time (complete_in (definition_lines before)) words
     (option_and_then event_number_of (slice_get words 0)))
 
-all_told : {X Y : Type 0} (f : X → Option Y) (P : Y → Type 0) → ((x : X) → IfSome (f x) P) → (xs : List X)
-    → All P (filter_map f xs)
-all_told f P each [] = All-nil P
-all_told {Y = Y} f P each (x ∷ xs) = by (f x) (each x) (all_told f P each xs)
-  where
-    by : (o : Option Y) → IfSome o P → All P (filter_map f xs) → All P (cons_option o (filter_map f xs))
-    by None holds later = later
-    by (Some y) holds later = All-cons P y (filter_map f xs) holds later
-
 pub events_in_time : (lines : List TextLine) → AreInTime (event_lines lines)
-events_in_time lines = all_told event_line_at (λ line. line.time ≤ MAX_TIME)
+events_in_time lines = All-told event_line_at (λ line. line.time ≤ MAX_TIME)
     (λ p. behind_in_time p.before p.line.number (reading p.line)) (placed lines)

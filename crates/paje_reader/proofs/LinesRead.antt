@@ -6,6 +6,7 @@ use Rattle.std.proofs.Common.{◌∙◌, ap, subst}
 use Rattle.std.specs.Option.{option_and_then, option_map_or, option_to_list}
 use Rattle.std.specs.Result.{IsErrAnd}
 use Rattle.std.specs.Str.Lines.{strip_carriage_return}
+use Rattle.list_lemmas.proofs.Options.{cons_option-list}
 use Rattle.trace_base.specs.declared.limits.TheConstants.{MAX_TRACE_LINE}
 use Rattle.paje_lex.specs.LineKinds.{is_skipped_line}
 use Rattle.paje_lex.specs.LineReading.{lexed}
@@ -19,8 +20,9 @@ use Rattle.paje_defs.specs.Lines.{Definitions, begun_in, complete_in, definition
 use Rattle.paje_defs.specs.Lines.{definitions_of_lines}
 use Rattle.paje_defs.specs.Refusals.{Placed, first_of, refusal, when}
 use Rattle.paje_defs.specs.Table.{TakesNext, definitions_of, numbered_line}
-use Rattle.paje_defs.proofs.PlacedMore.{one_or_none, told-more}
+use Rattle.paje_defs.proofs.PlacedMore.{told-more}
 use Rattle.paje_defs.proofs.RefusedMore.{none_refused, refusal-next}
+use Rattle.paje_defs.proofs.FirstOf.{first_one}
 use Rattle.paje_lines.specs.declared.effect.Effect.{Effect}
 use Rattle.paje_lines.specs.declared.model_fault.ModelFault.{ModelFault}
 use Rattle.paje_lines.specs.EventLine.{line_of}
@@ -56,7 +58,7 @@ definitions-by : (before : List TextLine) (line : TextLine) (r : Reading) → re
 definitions-by before line r is =
     filter_map-append (λ line. definition_line line.number (reading line)) before (line ∷ [])
     ∙ (ap (λ lines. definition_lines before ++ lines)
-    (one_or_none (definition_line line.number (reading line)))
+    (cons_option-list (definition_line line.number (reading line)))
     ∙ ap (λ r. definition_lines before ++ option_to_list (definition_line line.number r)) is)
 
 events-by : (before : List TextLine) (line : TextLine) (r : Reading) → reading line ≡ r
@@ -175,10 +177,6 @@ facts before r read =
       begun = begun_in (option_map_or (λ p. p.before) first lines);
       fault = option_and_then definition_reason_at first;
     }) (none_refused definition_reason_at lines (undefined before r read))
-
-first_one : {F : Type 0} (o : Option F) → first_of (o ∷ []) ≡ o
-first_one None = refl
-first_one (Some f) = refl
 
 -- inside a definition
 pub inside : (before : List TextLine) (line : TextLine) (r : Reader) (words : List (List ℕ)) → HasRead before

@@ -7,8 +7,6 @@ mod line_fault;
 mod read;
 mod read_fault;
 mod reader;
-#[cfg(test)]
-mod tests;
 mod why;
 
 pub use examples::{

@@ -29,9 +29,10 @@ impl Reader {
     pub fn new(alloc: Global) -> Result<Reader, Memory>
         ensures { IfOk result (HasRead []) }
     {
+        let entities = Entities::new(alloc)?;
         Ok(Reader {
             definitions: DefTable::new(alloc),
-            entities: Entities::new(alloc)?,
+            entities,
             tokens: Seq::new(alloc),
         })
     }

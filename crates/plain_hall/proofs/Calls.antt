@@ -4,26 +4,27 @@ use Rattle.std.proofs.Common.{length, Ok, refl, sym, ap, ap₂, ◌∙◌, subst
 use Rattle.std.proofs.Common.{inr}
 use Rattle.std.specs.Option.{option_map_or}
 use Rattle.std.proofs.lemmas.Bool.{eq-eqb, eqb-true}
-use Rattle.trace_base.specs.declared.asks.AskIds.{AskIds}
-use Rattle.trace_base.specs.declared.asks.AskIds.TheVariants.{One, Two}
-use Rattle.trace_base.specs.declared.asks.PassState.TheVariants.{Straight, Whole}
+use Rattle.list_lemmas.proofs.Options.{or_None}
+use Rattle.hall_history.specs.declared.asks.AskIds.{AskIds}
+use Rattle.hall_history.specs.declared.asks.AskIds.TheVariants.{One, Two}
+use Rattle.hall_history.specs.declared.asks.PassState.TheVariants.{Straight, Whole}
 use Rattle.trace_base.specs.declared.names.TraceInfo.{TraceInfo}
 use Rattle.hall_trait.specs.Answers.{HasRoom, places_of_load, Admits, MakesLoadEntry, left_after}
 use Rattle.hall_trait.specs.Answers.{AreOpen, IsFirstUnknown}
-use Rattle.node_key.specs.History.{Entry, Opened, Published, Asked, opened_ids, is_open}
-use Rattle.node_key.specs.History.{is_loading, tracks_of, published_count, PublishedTree}
+use Rattle.hall_history.specs.History.{Entry, Opened, Published, Asked, opened_ids, is_open}
+use Rattle.hall_history.specs.History.{is_loading, tracks_of, published_count, PublishedTree}
 use Rattle.plain_hall.specs.Kept.{IsKept}
 use Rattle.plain_hall.specs.Loading.{pass_of, passes_of}
 use Rattle.plain_hall.specs.Orderly.{IsOrderly}
 use Rattle.hall_trait.specs.Pass.{state_at, left_in, state_after, pass_view, advanced, IsFresh, IsNext}
 use Rattle.hall_trait.specs.Pin.{first_id, second_id}
 use Rattle.plain_hall.specs.PlainSeat.{plain_seat}
-use Rattle.node_key.specs.Seat.{Becomes}
-use Rattle.node_key.specs.declared.seat.PinView.{PinView}
-use Rattle.node_key.specs.declared.seat.PassView.{PassView}
+use Rattle.hall_history.specs.Seat.{Becomes}
+use Rattle.hall_history.specs.declared.seat.PinView.{PinView}
+use Rattle.hall_history.specs.declared.seat.PassView.{PassView}
 use Rattle.node_key.specs.declared.stake.Stake.{Stake}
 use Rattle.hall_trait.specs.declared.pass.LoadPass.{LoadPass}
-use Rattle.node_key.proofs.HistoryMore.{count_more, info_more, or_none}
+use Rattle.hall_history.proofs.HistoryMore.{count_more, info_more}
 use Rattle.plain_hall.proofs.Passes.{Opens, asked_keeps, published_goes_on, opened_opens, has_loading}
 use Rattle.plain_hall.proofs.Steps.{makes}
 
@@ -135,7 +136,7 @@ published_left old pass track s orderly next facts =
     (arith, next_is_count old pass track facts next) in
     let tracks : tracks_of new pass.id ≡ pass.to =
     ap (λ o. option_map_or (λ (i : TraceInfo). length i.names.tracks) o 0)
-    (info_more old (Published pass.id track s) pass.id ∙ or_none _) ∙ facts.to in
+    (info_more old (Published pass.id track s) pass.id ∙ or_None _) ∙ facts.to in
     let view : pass_of new pass.id ≡ pass_view (advanced pass) = same_view _ _ refl (sym facts.from) tracks
     (ap₂ state_at count tracks ∙ sym (ap (λ st. state_after st pass.to) next)) in
     subst (λ (view : PassView). Becomes (passes_of old) (passes_of new) (pass_of old pass.id) (view ∷ []))

@@ -1,12 +1,12 @@
 -- How many nodes a store has that no stakes are on but those of the roots.
 use Rattle.std.proofs.Common.{◌≡◌, ℕ, List, [], ◌∷◌, ◌++◌, length, map, refl, sym, ap, ◌∙◌}
-use Rattle.node_key.specs.History.{EntryOf, PublishedTree}
+use Rattle.hall_history.specs.History.{EntryOf, PublishedTree}
 use Rattle.node_key.specs.Keys.{distinct}
-use Rattle.node_key.specs.Left.{left_of, open_published}
+use Rattle.hall_history.specs.Left.{left_of, open_published}
 use Rattle.node_key.specs.declared.stake.Stake.{Stake}
 use Rattle.node_key.specs.Stands.{KeyAt}
 use Rattle.node_key.specs.Tree.{Tree}
-use Rattle.node_key.specs.declared.left.Left.{Left}
+use Rattle.hall_history.specs.declared.left.Left.{Left}
 use Rattle.store_laws.proofs.SubtreesCount.{as_many_nodes}
 use Rattle.store_laws.specs.Store.{nodes_in}
 use Rattle.node_store.specs.Given.{ever, stakes_of}

@@ -1,14 +1,14 @@
 -- What calls on nodes answer, as the seat of a plain hall before and after tells them.
 use Rattle.std.proofs.Common.{◌≡◌, ℕ, ◌+◌, ◌<◌, List, [], ◌∷◌, length, drop, get_or, Ok, Some}
-use Rattle.std.proofs.Common.{refl, sym, ap, ◌∙◌, arith, add-one, drop-cons, subst}
+use Rattle.std.proofs.Common.{refl, sym, ap, ◌∙◌, add-one, drop-cons, subst}
 use Rattle.std.specs.Prelude.{is_some, IsSome}
 use Rattle.std.specs.List.{AllZip, range_with_len}
 use Rattle.hall_trait.specs.Nodes.{ReadsNode, StakesNode}
 use Rattle.node_key.specs.Branches.{branches}
-use Rattle.node_key.specs.History.{Entry}
+use Rattle.hall_history.specs.History.{Entry}
 use Rattle.node_key.specs.Keys.{IsKeyOf}
-use Rattle.node_key.specs.Seat.{ExchangesStakes, Seat}
-use Rattle.node_key.specs.declared.seat.PinView.{PinView}
+use Rattle.hall_history.specs.Seat.{ExchangesStakes, Seat}
+use Rattle.hall_history.specs.declared.seat.PinView.{PinView}
 use Rattle.node_key.specs.Stakes.{Exchanges, stake}
 use Rattle.node_key.specs.declared.stake.Stake.{Stake}
 use Rattle.node_key.specs.Stands.{KeyAt, KidsStand, Stands}
@@ -26,7 +26,6 @@ use Rattle.plain_hall.specs.PlainSeat.{plain_seat}
 use Rattle.plain_hall.specs.Rooted.{root_stake}
 use Rattle.plain_hall.specs.Spots.{stakes_at}
 use Rattle.plain_hall.specs.declared.spots.TrackSpot.{TrackSpot}
-use Rattle.plain_hall.proofs.Keeping.{times_first}
 
 -- some stakes are exchanged, and the history is the same
 pub exchanged : (old new taken given : List Stake) (seen now : List Entry) (pins : List PinView) → now ≡ seen
@@ -68,6 +67,3 @@ pub next_root : (s : NodesKept) (spots : List TrackSpot) (i : ℕ) (spot : Track
     ≡ root_stake (ever s.given) (get_or spots i spot).root ∷ stakes_at s (drop (i + 1) spots)
 next_root s spots i spot below = ap (stakes_at s) (drop-cons spots i spot below ∙ ap
     (λ n. get_or spots i spot ∷ drop n spots) (sym (add-one i)))
-
-pub without_first : (x : Stake) (xs : List Stake) → Exchanges (x ∷ xs) xs (x ∷ []) []
-without_first x xs z = omega (arith, times_first z x xs)

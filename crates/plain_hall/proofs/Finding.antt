@@ -1,5 +1,5 @@
 -- What each entry leaves of the spots of a history's traces, and what is read there.
-use Rattle.std.proofs.Common.{◌≡◌, ℕ, ◌+◌, ◌-◌, ◌<◌, ◌≤◌, ◌⊎◌, inl, inr, suc, zero, Bool, true, false, ◌||◌}
+use Rattle.std.proofs.Common.{◌≡◌, ℕ, ◌+◌, ◌-◌, ◌<◌, ◌≤◌, inl, inr, suc, zero, Bool, true, false, ◌||◌}
 use Rattle.std.proofs.Common.{◌&&◌, not, cond, eqb, List, [], ◌∷◌, ◌++◌, length, take, set, Option, None}
 use Rattle.std.proofs.Common.{Some, filter}
 use Rattle.std.proofs.Common.{refl, sym, ap, ap₂, ◌∙◌, arith, subst, length-append}
@@ -14,17 +14,24 @@ use Rattle.std.proofs.lemmas.Bool.Decides.{eqb_tells, nat_tests}
 use Rattle.std.proofs.lemmas.List.{map-append}
 use Rattle.std.proofs.lemmas.List.Elements.{filter_map-append}
 use Rattle.std.proofs.Math.Seq.{take-append_seam}
+use Rattle.std.proofs.Common.{length-set}
+use Rattle.std.proofs.lemmas.Bool.{or_right}
+use mathlib.Core.Bool.{or-false}
+use Rattle.list_lemmas.proofs.Booleans.{and_not}
+use Rattle.list_lemmas.proofs.Found.{any_more}
+use Rattle.list_lemmas.proofs.Options.{given_some, or_stays}
+use Rattle.list_lemmas.proofs.Positions.{changed_or_not, last_or_before, past_end}
 use Rattle.trace_base.specs.declared.names.TraceInfo.{TraceInfo}
-use Rattle.node_key.specs.History.{EntryOf, Opened, Published, Sealed, Dropped, Closed, Asked, info_opened}
-use Rattle.node_key.specs.History.{publishes}
-use Rattle.node_key.specs.Left.{published_if}
-use Rattle.node_key.specs.History.{published_as, ends, opened_ids, info_of, published_of, is_open}
-use Rattle.node_key.specs.History.{tracks_of}
-use Rattle.node_key.specs.History.{published_count}
-use Rattle.node_key.proofs.HistoryMore.{SameData, subject, opened_more, info_more, published_more, count_more}
-use Rattle.node_key.proofs.HistoryMore.{any_more, or_false, data_of_others, fate_of_others, data_sealed}
-use Rattle.node_key.proofs.HistoryMore.{data_dropped}
-use Rattle.node_key.proofs.HistoryMore.{data_asked, fate_asked, fate_published}
+use Rattle.hall_history.specs.History.{EntryOf, Opened, Published, Sealed, Dropped, Closed, Asked}
+use Rattle.hall_history.specs.History.{info_opened, publishes}
+use Rattle.hall_history.specs.Left.{published_if}
+use Rattle.hall_history.specs.History.{published_as, ends, opened_ids, info_of, published_of, is_open}
+use Rattle.hall_history.specs.History.{tracks_of}
+use Rattle.hall_history.specs.History.{published_count}
+use Rattle.hall_history.proofs.HistoryMore.{SameData, subject, opened_more, info_more, published_more}
+use Rattle.hall_history.proofs.HistoryMore.{count_more, data_of_others, fate_of_others, data_sealed}
+use Rattle.hall_history.proofs.HistoryMore.{data_dropped, data_asked, fate_asked, fate_published}
+use Rattle.hall_history.proofs.HistoryFronts.{none_yet, published_stays}
 use Rattle.plain_hall.specs.Kept.{entry_of}
 use Rattle.plain_hall.specs.Orderly.{IsOrderly}
 use Rattle.plain_hall.specs.Spots.{told_at, all_published, roots_at, spot_of, IsTrackSpot, IsTraceSpot, AreSpots}
@@ -32,49 +39,13 @@ use Rattle.plain_hall.specs.declared.kept_entry.KeptEntry.{KeptEntry}
 use Rattle.plain_hall.specs.declared.root.Root.{Root}
 use Rattle.plain_hall.specs.declared.spots.TraceSpot.{TraceSpot}
 use Rattle.plain_hall.specs.declared.spots.TrackSpot.{TrackSpot}
-use Rattle.plain_hall.proofs.Found.{some_stays, published_stays, none_before, not_published, open_by}
+use Rattle.plain_hall.proofs.Found.{not_published, open_by}
 use Rattle.plain_hall.proofs.Found.{told_within}
-use Rattle.plain_hall.proofs.Passes.{opened_opens, or_true, and_not}
+use Rattle.plain_hall.proofs.Passes.{opened_opens}
 
 -- the first of the first
 take_shorter : (m n : ℕ) (entries : List (EntryOf Root)) → m ≤ n → take m (take n entries) ≡ take m entries
 take_shorter m n entries le = take-take m n entries (omega arith)
-
-some_of : {X : Type 0} (o : Option X) → is_some o ≡ true → (x : X) × (o ≡ Some x)
-some_of None e = absurd cc
-some_of (Some x) e = (x, refl)
-
--- an item of a list with one more, and of a list with one changed
-pub last_or_before : {X : Type 0} (xs : List X) (y : X) (j : ℕ) (z : X) → slice_get (xs ++ y ∷ []) j ≡ Some z
-    → (slice_get xs j ≡ Some z) ⊎ ((j ≡ length xs) × (z ≡ y))
-last_or_before [] y zero z at = inr (refl, cc)
-last_or_before [] y (suc j) z at = absurd cc
-last_or_before (x ∷ xs) y zero z at = inl at
-last_or_before (x ∷ xs) y (suc j) z at =
-    elim (last_or_before xs y j z at) [ inl front ↦ inl front | inr end ↦ inr (omega (arith, end.0), end.1) ]
-
-changed_or_not : {X : Type 0} (xs : List X) (i : ℕ) (y : X) (j : ℕ) (z : X)
-    → slice_get (set xs i y) j ≡ Some z
-    → ((i ≡ j) × (z ≡ y)) ⊎ ((eqb i j ≡ false) × (slice_get xs j ≡ Some z))
-changed_or_not [] i y j z at = absurd cc
-changed_or_not (x ∷ xs) zero y zero z at = inl (refl, cc)
-changed_or_not (x ∷ xs) zero y (suc j) z at = inr (grind (arith, nat_tests), at)
-changed_or_not (x ∷ xs) (suc i) y zero z at = inr (grind (arith, nat_tests), at)
-changed_or_not (x ∷ xs) (suc i) y (suc j) z at =
-    elim (changed_or_not xs i y j z at) [
-      | inl same ↦ inl (omega (arith, same.0), same.1)
-      | inr other ↦ let ne = other.0 in inr (grind (arith, nat_tests), other.1)
-    ]
-
-length-set : {X : Type 0} (xs : List X) (i : ℕ) (y : X) → length (set xs i y) ≡ length xs
-length-set [] i y = refl
-length-set (x ∷ xs) zero y = refl
-length-set (x ∷ xs) (suc i) y = ap suc (length-set xs i y)
-
-past_end : {X : Type 0} (xs : List X) (i : ℕ) → slice_get xs i ≡ None → length xs ≤ i
-past_end [] i at = omega arith
-past_end (x ∷ xs) zero at = absurd cc
-past_end (x ∷ xs) (suc i) at = omega (arith, past_end xs i at)
 
 -- what a kept entry tells, with more of them behind, and what the last one tells
 told_at-more : {Y : Type 0} (h : EntryOf Root → Option Y) (kept more : List KeptEntry) (at : ℕ) (y : Y)
@@ -111,7 +82,7 @@ all_more entries e id (Some r) is = filter_map-append (published_if (eqb id)) en
 track_spot_more : (entries : List (EntryOf Root)) (e : EntryOf Root) (id track : ℕ) (spot : TrackSpot)
     → IsTrackSpot entries id track spot → IsTrackSpot (entries ++ e ∷ []) id track spot
 track_spot_more entries e id track spot was = record {
-  root = published_more entries e id track ∙ some_stays (published_of entries id track) _ spot.root was.root;
+  root = published_more entries e id track ∙ or_stays (published_of entries id track) _ spot.root was.root;
   within = omega (arith, was.within, length-append entries (e ∷ []));
   before = ap (λ es. published_of es id track) (take-append-le (spot.place - 1) entries (e ∷ [])
       (omega (arith, was.within))) ∙ was.before;
@@ -126,8 +97,8 @@ trace_spot_more : (kept more : List KeptEntry) (entries : List (EntryOf Root)) (
     → ended ≡ list_any (ends id) (entries ++ e ∷ []) → IsTraceSpot kept entries id spot
     → IsTraceSpot (kept ++ more) (entries ++ e ∷ []) id (record spot { ended = ended })
 trace_spot_more kept more entries e id spot ended none count fate was =
-    let i = some_of (info_of entries id) was.told in
-    let now : info_of (entries ++ e ∷ []) id ≡ Some i.0 = info_more entries e id ∙ some_stays
+    let i = given_some (info_of entries id) was.told in
+    let now : info_of (entries ++ e ∷ []) id ≡ Some i.0 = info_more entries e id ∙ or_stays
     (info_of entries id) _ i.0 i.1 in
     let tracks : tracks_of (entries ++ e ∷ []) id ≡ tracks_of entries id =
     ap (λ o. option_map_or (λ (info : TraceInfo). length info.names.tracks) o 0) (now ∙ sym i.1) in
@@ -178,7 +149,7 @@ spots_sealed kept kept' more entries new id spots same seen was =
     after_push kept kept' more entries new (Sealed id) spots same seen
     (spots_same kept more entries (Sealed id) spots
     (ap length (opened_more entries (Sealed id) ∙ append-nil _)) (λ other. refl) (data_sealed entries id)
-    (λ other. any_more (ends other) entries (Sealed id) ∙ or_false _) was)
+    (λ other. any_more (ends other) entries (Sealed id) ∙ or-false _) was)
 
 -- an entry about one trace leaves the spots of the others
 spots_changed : (kept more : List KeptEntry) (entries : List (EntryOf Root)) (e : EntryOf Root) (spots : List TraceSpot)
@@ -207,7 +178,7 @@ pub spots_dropped : (kept kept' more : List KeptEntry) (entries new : List (Entr
     (set spots i (record spot { ended = true }))
 spots_dropped kept kept' more entries new i id spots spot same seen next at was =
     let ended : true ≡ list_any (ends (i + 1)) (entries ++ Dropped id ∷ []) =
-    sym (any_more (ends (i + 1)) entries (Dropped id) ∙ or_true _ _ (eq-eqb id (i + 1) next)) in
+    sym (any_more (ends (i + 1)) entries (Dropped id) ∙ or_right _ _ (eq-eqb id (i + 1) next)) in
     after_push kept kept' more entries new (Dropped id) _ same seen
     (spots_changed kept more entries (Dropped id) spots i (record spot { ended = true })
     (ap length (opened_more entries (Dropped id) ∙ append-nil _)) next
@@ -247,8 +218,8 @@ trace_spot_published : (kept : List KeptEntry) (k : KeptEntry) (entries : List (
 trace_spot_published kept k entries id track s was now spot turn none at place opened ended tracks room
     old =
     let new = entries ++ Published id track s ∷ [] in
-    let i = some_of (info_of entries id) old.told in
-    let info : info_of new id ≡ Some i.0 = info_more entries (Published id track s) id ∙ some_stays
+    let i = given_some (info_of entries id) old.told in
+    let info : info_of new id ≡ Some i.0 = info_more entries (Published id track s) id ∙ or_stays
     (info_of entries id) _ i.0 i.1 in
     let many : tracks_of new id ≡ tracks_of entries id =
     ap (λ o. option_map_or (λ (info : TraceInfo). length info.names.tracks) o 0) (info ∙ sym i.1) in
@@ -433,7 +404,7 @@ spot_missing kept entries spots id orderly are at = go (info_of entries id) refl
 pub unpublished : (entries : List (EntryOf Root)) (id track place : ℕ) → IsOrderly entries
     → published_count entries id ≤ track → published_of (take place entries) id track ≡ None
 unpublished entries id track place orderly past =
-    none_before entries place id track (not_published entries id track orderly past)
+    none_yet entries place id track (not_published entries id track orderly past)
 
 -- a trace of which nothing is told has no published track
 pub untold : (entries : List (EntryOf Root)) (id track place : ℕ) → IsOrderly entries → info_of entries id ≡ None
@@ -448,7 +419,7 @@ pub root_from : (entries : List (EntryOf Root)) (id track place : ℕ) (spot : T
     → IsTrackSpot entries id track spot → spot.place ≤ place
     → ◌≡◌ {A = Option Root} (Some spot.root) (published_of (take place entries) id track)
 root_from entries id track place spot is from =
-    let s = some_of (published_of (take spot.place entries) id track) is.from in
+    let s = given_some (published_of (take spot.place entries) id track) is.from in
     let here : published_of (take spot.place (take place entries)) id track ≡ Some s.0 =
     ap (λ es. published_of es id track) (take_shorter spot.place place entries from) ∙ s.1 in
     sym is.root ∙ published_stays entries spot.place id track s.0 s.1 ∙ sym
@@ -459,7 +430,7 @@ pub root_until : (entries : List (EntryOf Root)) (id track place : ℕ) (spot : 
     → published_of (take place entries) id track ≡ None
 root_until entries id track place spot is before =
     ap (λ es. published_of es id track) (sym (take_shorter place (spot.place - 1) entries (omega arith)))
-    ∙ none_before (take (spot.place - 1) entries) place id track is.before
+    ∙ none_yet (take (spot.place - 1) entries) place id track is.before
 
 -- what is read at the spot of a trace, where it may be open only
 pub open_info_at : (kept : List KeptEntry) (entries : List (EntryOf Root)) (id : ℕ) (spot : TraceSpot)

@@ -1,104 +1,39 @@
 -- What a history tells of a trace was in one of its entries, and stays.
 use Rattle.std.proofs.Common.{◌≡◌, ℕ, ◌≤◌, Bool, true, false, ◌||◌, ◌&&◌, not, cond, eqb, List, [], ◌∷◌, ◌++◌}
-use Rattle.std.proofs.Common.{length, take, drop, Option, None, Some, refl, sym, ap, ◌∙◌, arith, suc}
+use Rattle.std.proofs.Common.{length, take, drop, Option, None, Some, refl, sym, ap, ◌∙◌, arith}
 use Rattle.std.proofs.Common.{length-append, Contains, get_or, map, subst}
 use Rattle.std.specs.Prelude.{slice_get, is_some, IsSome}
 use Rattle.std.specs.List.{list_any, filter_map, cons_option}
-use Rattle.std.specs.Option.{option_or, option_to_list, ForSome}
+use Rattle.std.specs.Option.{option_to_list, ForSome}
 use Rattle.std.proofs.lemmas.List.{take-append-drop, take-append-le, take_all}
-use Rattle.trace_base.specs.Info.{IsLegalInfo}
+use Rattle.std.proofs.lemmas.Option.{cond_some}
+use Rattle.std.specs.Cmp.{first_so, second_so}
+use Rattle.list_lemmas.proofs.Found.{first-append, first_given, given_from_first}
+use Rattle.list_lemmas.proofs.Options.{or_stays}
+use Rattle.list_lemmas.proofs.Ranges.{in_range}
 use Rattle.trace_base.specs.declared.names.TraceInfo.{TraceInfo}
-use Rattle.node_key.specs.History.{Entry, EntryOf, Opened, Published, Sealed, Dropped, Closed, Asked, opened_id}
-use Rattle.node_key.specs.History.{info_opened, published_as, ends, opened_ids, info_of, published_of}
-use Rattle.node_key.specs.History.{is_open, published_count, MayFollow, IsLegalHistory}
-use Rattle.node_key.specs.History.{IsTrackTree, PublishedTree}
+use Rattle.hall_history.specs.History.{Entry, EntryOf, Opened, Published, Sealed, Dropped, Closed, Asked}
+use Rattle.hall_history.specs.History.{opened_id, info_opened, published_as, ends, opened_ids, info_of}
+use Rattle.hall_history.specs.History.{published_of, is_open, published_count, MayFollow, IsLegalHistory}
+use Rattle.hall_history.specs.History.{IsTrackTree, PublishedTree}
 use Rattle.hall_trait.specs.Pin.{first_id, second_id, id_at}
 use Rattle.plain_hall.specs.PlainSeat.{IsHeld, kept_view}
-use Rattle.node_key.specs.declared.seat.PinView.{PinView}
+use Rattle.hall_history.specs.declared.seat.PinView.{PinView}
 use Rattle.plain_hall.specs.declared.kept_pin.KeptPin.{KeptPin}
 use Rattle.std.proofs.lemmas.Bool.{eqb-true}
 use Rattle.std.proofs.lemmas.Bool.Decides.{nat_tests}
 use Rattle.plain_hall.specs.Orderly.{IsOrderly}
-use Rattle.plain_hall.proofs.Legal.{and_left, and_right, in_range}
-use Rattle.node_key.proofs.HistoryMore.{first-append}
-
--- the first value that h gives
-abbrev pub first : {X Y : Type 0} → (X → Option Y) → List X → Option Y
-first h xs = slice_get (filter_map h xs) 0
-
--- the value is that of an item
-abbrev pub IsGivenBy : {X Y : Type 0} → (X → Option Y) → List X → Y → Type 0
-IsGivenBy {X} h xs y = (k : ℕ) × (x : X) × (slice_get xs k ≡ Some x) × (h x ≡ Some y)
-
-given_by_first : {X Y : Type 0} (h : X → Option Y) (x : X) (xs : List X) (y : Y)
-    → (first h xs ≡ Some y → IsGivenBy h xs y) → first h (x ∷ xs) ≡ Some y → (o : Option Y) → h x ≡ o
-    → IsGivenBy h (x ∷ xs) y
-given_by_first h x xs y later at None e =
-    let rest = later (sym (ap (λ o. slice_get (cons_option o (filter_map h xs)) 0) e) ∙ at) in
-    (suc rest.0, rest.1, rest.2, rest.3)
-given_by_first h x xs y later at (Some z) e =
-    (0, x, refl, e ∙ sym (ap (λ o. slice_get (cons_option o (filter_map h xs)) 0) e) ∙ at)
-
-pub found : {X Y : Type 0} (h : X → Option Y) (xs : List X) (y : Y) → first h xs ≡ Some y → IsGivenBy h xs y
-found h [] y at = absurd cc
-found h (x ∷ xs) y at = given_by_first h x xs y (found h xs y) at (h x) refl
-
-pub some_is : {X : Type 0} (x y : X) → ◌≡◌ {A = Option X} (Some x) (Some y) → x ≡ y
-some_is x y e = cc
-
-pub cond_some : {X : Type 0} (b : Bool) (x y : X) → cond b (Some x) None ≡ Some y → (b ≡ true) × (x ≡ y)
-cond_some true x y e = (refl, cc)
-cond_some false x y e = absurd cc
-
-opened_legal : (before : List Entry) (e : Entry) (id : ℕ) (info : TraceInfo) → info_opened id e ≡ Some info
-    → MayFollow before e → IsLegalInfo info
-opened_legal before (Opened other i) id info gives may = let P : TraceInfo → Type 0 = λ i. IsLegalInfo i
-    in subst P (cond_some (eqb other id) i info gives).1 may.1
-opened_legal before (Published other track s) id info gives may = absurd cc
-opened_legal before (Sealed other) id info gives may = absurd cc
-opened_legal before (Dropped other) id info gives may = absurd cc
-opened_legal before (Closed other) id info gives may = absurd cc
-opened_legal before Asked id info gives may = absurd cc
-
--- what a trace of a legal history was opened with is legal
-pub info_legal : (entries : List Entry) (id : ℕ) (info : TraceInfo) → IsLegalHistory entries
-    → info_of entries id ≡ Some info → IsLegalInfo info
-unfolding info_of
-info_legal entries id info legal at =
-    let where_from = found (info_opened id) entries info at in
-    opened_legal (take where_from.0 entries) where_from.1 id info where_from.3
-    (legal where_from.0 where_from.1 where_from.2)
-
-pub some_stays : {X : Type 0} (o p : Option X) (x : X) → o ≡ Some x → option_or o p ≡ Some x
-some_stays o p x e = ap (λ o. option_or o p) e
 
 -- the first value of some entries is that of all
 first_stays : {X : Type 0} → {Y : Type 0} (h : EntryOf X → Option Y) (entries : List (EntryOf X)) (n : ℕ) (y : Y)
-    → first h (take n entries) ≡ Some y → first h entries ≡ Some y
-first_stays h entries n y at = ap (first h) (sym (take-append-drop n entries)) ∙ first-append h
-    (take n entries) (drop n entries) ∙ some_stays (first h (take n entries)) _ y at
+    → first_given h (take n entries) ≡ Some y → first_given h entries ≡ Some y
+first_stays h entries n y at = ap (first_given h) (sym (take-append-drop n entries)) ∙ first-append h
+    (take n entries) (drop n entries) ∙ or_stays (first_given h (take n entries)) _ y at
 
 pub info_stays : {X : Type 0} → (entries : List (EntryOf X)) (n id : ℕ) (info : TraceInfo)
     → info_of (take n entries) id ≡ Some info → info_of entries id ≡ Some info
 unfolding info_of
 info_stays entries n id info at = first_stays (info_opened id) entries n info at
-
-pub published_stays : {X : Type 0} → (entries : List (EntryOf X)) (n id track : ℕ) (s : X)
-    → published_of (take n entries) id track ≡ Some s → published_of entries id track ≡ Some s
-unfolding published_of
-published_stays entries n id track s at = first_stays (published_as id track) entries n s at
-
--- what isn't told by all isn't told by the first of them
-pub none_before : {X : Type 0} → (entries : List (EntryOf X)) (n id track : ℕ) → published_of entries id track ≡ None
-    → published_of (take n entries) id track ≡ None
-none_before {X} entries n id track none = go (published_of (take n entries) id track) refl
-  where
-    differ : (s : X) → ◌≡◌ {A = Option X} None (Some s) → ⊥
-    differ s e = cc
-
-    go : (o : Option X) → published_of (take n entries) id track ≡ o → o ≡ None
-    go None e = refl
-    go (Some s) e = absurd (differ s (sym none ∙ published_stays entries n id track s e))
 
 -- what was told at a place is told later
 pub same_info : {X : Type 0} → (entries : List (EntryOf X)) (n id : ℕ) → IsSome (info_of (take n entries) id)
@@ -114,8 +49,8 @@ published_tracks : (before : List Entry) (e : Entry) (id track : ℕ) (p : Publi
     → published_as id track e ≡ Some p → MayFollow before e → IsTrackTree before id track p
 published_tracks before (Published other which t) id track p gives may =
     let both = cond_some (eqb other id && eqb which track) t p gives in
-    let same_id : other ≡ id = eqb-true other id (and_left _ _ both.0) in
-    let same_track : which ≡ track = eqb-true which track (and_right _ _ both.0) in
+    let same_id : other ≡ id = eqb-true other id (first_so _ _ both.0) in
+    let same_track : which ≡ track = eqb-true which track (second_so _ _ both.0) in
     let P : ℕ → Type 0 = λ i. IsTrackTree before i track p in
     let Q : ℕ → Type 0 = λ i. IsTrackTree before other i p in
     let R : PublishedTree → Type 0 = λ i. IsTrackTree before other which i in
@@ -131,14 +66,14 @@ pub published_fits : (entries : List Entry) (id track : ℕ) (p : PublishedTree)
     → published_of entries id track ≡ Some p → IsTrackTree entries id track p
 unfolding published_of
 published_fits entries id track p legal at =
-    let where_from = found (published_as id track) entries p at in
+    let where_from = given_from_first (published_as id track) entries p at in
     let tree = published_tracks (take where_from.0 entries) where_from.1 id track p where_from.3
     (legal where_from.0 where_from.1 where_from.2) in
     let fits = tree.1 in
     (tree.0, (fits.0, info_stays entries where_from.0 id fits.0 fits.1, fits.2, fits.3), tree.2)
 
 among-told : {X : Type 0} → (entries : List (EntryOf X)) (id : ℕ) → list_any (λ other. eqb other id) (filter_map opened_id entries)
-    ≡ is_some (first (info_opened id) entries)
+    ≡ is_some (first_given (info_opened id) entries)
 among-told [] id = refl
 among-told (Opened other info ∷ entries) id =
     elim (eqb other id) as (λ b. (b || list_any (λ other. eqb other id) (filter_map opened_id entries)) ≡
@@ -177,13 +112,7 @@ told_within entries id orderly told =
     (within.0, omega arith)
 
 pub open_told : {X : Type 0} → (entries : List (EntryOf X)) (id : ℕ) → is_open entries id ≡ true → IsSome (info_of entries id)
-open_told entries id on = and_left _ _ (sym (open_by entries id) ∙ on)
-
--- what an open trace was opened with is told, and of one that isn't open nothing
-pub open_some : {X : Type 0} (b : Bool) (o : Option X) (x : X) → cond b o None ≡ Some x → (b ≡ true)
-    × (o ≡ Some x)
-open_some true o x e = (refl, e)
-open_some false o x e = absurd cc
+open_told entries id on = first_so _ _ (sym (open_by entries id) ∙ on)
 
 pub open_none : {X : Type 0} → (entries : List (EntryOf X)) (id : ℕ) → cond (is_open entries id) (info_of entries id) None ≡ None
     → is_open entries id ≡ false

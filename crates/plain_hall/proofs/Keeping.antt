@@ -3,9 +3,10 @@ use Rattle.std.proofs.Common.{◌≡◌, ◌⊎◌, inl, inr, ◌+◌, cond, Lis
 use Rattle.std.proofs.Common.{map, Some, refl, sym, ap, ◌∙◌, arith, sum_by, Contains}
 use Rattle.std.specs.List.{AllZip}
 use Rattle.std.specs.Prelude.{◌≤◌}
-use Rattle.std.proofs.lemmas.List.Sums.{sum_by-append, sum_by-cons}
+use Rattle.std.proofs.lemmas.List.Sums.{sum_by-cons}
 use Rattle.node_key.specs.Stakes.{Exchanges, same_stake, times}
 use Rattle.node_key.specs.declared.stake.Stake.{Stake}
+use Rattle.node_key.proofs.StakeLaws.{times-append}
 use Rattle.shard_core.specs.Room.{Room}
 use Rattle.hall_trait.specs.Answers.{NextsRise}
 use Rattle.store_laws.specs.Counted.{IsStore, stakes_on}
@@ -14,11 +15,8 @@ use Rattle.store_laws.proofs.SumsOfStakes.{from_either, stakes_exchanged}
 use Rattle.node_store.specs.Given.{stakes_of}
 use Rattle.node_store.specs.Kept.{KeepsFor, NodesKept}
 
-pub times_both : (x : Stake) (xs ys : List Stake) → times x (xs ++ ys) ≡ times x xs + times x ys
-times_both x xs ys = sum_by-append (λ (y : Stake). cond (same_stake x y) 1 0) xs ys
-
 pub times_first : (x y : Stake) (ys : List Stake) → times x (y ∷ ys) ≡ times x (y ∷ []) + times x ys
-times_first x y ys = times_both x (y ∷ []) ys
+times_first x y ys = times-append x (y ∷ []) ys
 
 pub times_of : {X : Type 0} (x : Stake) (f : X → Stake) (xs : List X)
     → times x (map f xs) ≡ sum_by (λ y. cond (same_stake x (f y)) 1 0) xs
@@ -47,7 +45,7 @@ store_same rooms held left swap store = record {
 pub keeps_same : (s : NodesKept) (xs ys : List Stake) → ((x : Stake) → times x xs ≡ times x ys) → KeepsFor s xs
     → KeepsFor s ys
 keeps_same s xs ys same = store_same s.rooms (stakes_of s.given ++ xs) (stakes_of s.given ++ ys) (λ x.
-    omega (arith, same x, times_both x (stakes_of s.given) xs, times_both x (stakes_of s.given) ys))
+    omega (arith, same x, times-append x (stakes_of s.given) xs, times-append x (stakes_of s.given) ys))
 
 -- ---- rooms
 

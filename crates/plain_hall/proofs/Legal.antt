@@ -1,63 +1,35 @@
 -- A legal and orderly history stays so with an entry that may follow.
-use Rattle.std.proofs.Common.{◌≡◌, ℕ, ◌+◌, ◌<◌, ◌≤◌, inl, inr, Bool, true, false, ◌||◌, ◌&&◌, cond, eqb}
-use Rattle.std.proofs.Common.{ltb, List, [], ◌∷◌, ◌++◌, length, Option, None, Some, refl, sym, ap, ◌∙◌, subst}
-use Rattle.std.proofs.Common.{arith, length-append, suc, zero}
+use Rattle.std.proofs.Common.{◌≡◌, ℕ, ◌+◌, ◌<◌, ◌≤◌, inl, inr, true, false, ◌&&◌, cond, eqb}
+use Rattle.std.proofs.Common.{ltb, List, [], ◌∷◌, ◌++◌, length, None, Some, refl, sym, ap, ◌∙◌, subst}
+use Rattle.std.proofs.Common.{arith, length-append}
 use Rattle.std.specs.Prelude.{is_some}
 use Rattle.std.specs.List.{list_any, range_with_len}
 use Rattle.std.specs.Option.{option_or, option_to_list, option_map_or}
 use Rattle.std.proofs.lemmas.List.{append-nil}
 use Rattle.std.proofs.lemmas.Bool.{eq-eqb}
 use Rattle.std.proofs.lemmas.Bool.Decides.{eqb_tells, nat_tests}
+use Rattle.std.specs.Cmp.{first_so}
+use Rattle.list_lemmas.proofs.Options.{or_None, or_Some}
+use Rattle.list_lemmas.proofs.Ranges.{in_range, range_with_len-more}
 use Rattle.trace_base.specs.declared.names.TraceInfo.{TraceInfo}
-use Rattle.node_key.specs.History.{Entry, EntryOf, Opened, Published, Sealed, Dropped, Closed, Asked, opened_id}
-use Rattle.node_key.specs.History.{opened_ids, info_of, published_of, is_open, is_loading, tracks_of}
-use Rattle.node_key.specs.History.{published_count, MayFollow, PublishedTree}
+use Rattle.hall_history.specs.History.{Entry, EntryOf, Opened, Published, Sealed, Dropped, Closed, Asked}
+use Rattle.hall_history.specs.History.{opened_id, opened_ids, info_of, published_of, is_open, tracks_of}
+use Rattle.hall_history.specs.History.{published_count, MayFollow, PublishedTree}
 use Rattle.plain_hall.specs.Orderly.{IsOrderly, IsUnborn}
-use Rattle.node_key.proofs.HistoryMore.{SameData, subject, opened_more, info_more, published_more, count_more}
-use Rattle.node_key.proofs.HistoryMore.{data_of_others, fate_of_others, data_sealed, data_dropped, data_closed}
-use Rattle.node_key.proofs.HistoryMore.{data_asked, tracks_same, or_none}
-
-pub range_more : (a n : ℕ) → range_with_len a n ++ (a + n) ∷ [] ≡ range_with_len a (n + 1)
-range_more a zero = let e : a + 0 ≡ a = omega arith in ap (λ x. x ∷ []) e
-range_more a (suc n) =
-    let e : a + suc n ≡ a + 1 + n = omega arith in
-    ap (λ x. a ∷ range_with_len (a + 1) n ++ x ∷ []) e ∙ ap (λ xs. a ∷ xs) (range_more (a + 1) n) ∙ ap
-    (range_with_len a) (let f : suc (n + 1) ≡ suc n + 1 = omega arith in f)
-
-pub in_range : (a n x : ℕ) → list_any (λ other. eqb other x) (range_with_len a n) ≡ true → (a ≤ x)
-    × (x < a + n)
-in_range a zero x any = absurd cc
-in_range a (suc n) x any =
-    elim (eqb_tells a x) [
-      | inl same ↦ (omega arith, omega arith)
-      | inr other ↦
-          let rest : list_any (λ other. eqb other x) (range_with_len (a + 1) n) ≡ true =
-          sym (ap (λ b. b || list_any (λ other. eqb other x) (range_with_len (a + 1) n)) other.0) ∙ any in
-          let within = in_range (a + 1) n x rest in
-          (omega arith, omega arith)
-    ]
-
-pub and_right : (a b : Bool) → (a && b) ≡ true → b ≡ true
-and_right true b e = e
-and_right false b e = absurd cc
-
-pub and_left : (a b : Bool) → (a && b) ≡ true → a ≡ true
-and_left true b e = refl
-and_left false b e = e
+use Rattle.hall_history.proofs.HistoryMore.{SameData, subject, opened_more, info_more, published_more}
+use Rattle.hall_history.proofs.HistoryMore.{count_more, data_of_others, fate_of_others, data_sealed}
+use Rattle.hall_history.proofs.HistoryMore.{data_dropped, data_closed, data_asked, tracks_same}
+use Rattle.hall_history.proofs.HistoryFronts.{loading_open}
 
 -- an open trace has an id that was given
 pub open_within : {X : Type 0} → (entries : List (EntryOf X)) (id : ℕ) → IsOrderly entries → is_open entries id ≡ true → (1 ≤ id)
     × (id ≤ length (opened_ids entries))
 unfolding is_open
 open_within entries id orderly on =
-    let among : list_any (λ other. eqb other id) (opened_ids entries) ≡ true = and_left _ _ on in
+    let among : list_any (λ other. eqb other id) (opened_ids entries) ≡ true = first_so _ _ on in
     let within = in_range 1 (length (opened_ids entries)) id
     (sym (ap (list_any (λ other. eqb other id)) orderly.ids) ∙ among) in
     (within.0, omega arith)
-
-pub loading_open : {X : Type 0} → (entries : List (EntryOf X)) (id : ℕ) → is_loading entries id ≡ true → is_open entries id ≡ true
-unfolding is_loading
-loading_open entries id loading = and_left _ _ loading
 
 -- the track that the entry publishes is the next of its trace
 abbrev pub IsInTurn : List Entry → Entry → Type 0
@@ -100,7 +72,7 @@ ids_more entries (Opened id info) orderly may =
     let count : length (opened_ids (entries ++ Opened id info ∷ [])) ≡ n + 1 = ap length more ∙ length-append
     (opened_ids entries) (id ∷ []) in
     more ∙ ap (λ i. opened_ids entries ++ i ∷ []) next ∙ ap (λ xs. xs ++ (1 + n) ∷ []) orderly.ids ∙
-    range_more 1 n ∙ ap (range_with_len 1) (sym count)
+    (sym (range_with_len-more 1 n (1 + n) refl)) ∙ ap (range_with_len 1) (sym count)
 ids_more entries (Published id track s) orderly may =
     rw (opened_more entries (Published id track s), append-nil) orderly.ids
 ids_more entries (Sealed id) orderly may = rw (opened_more entries (Sealed id), append-nil) orderly.ids
@@ -127,10 +99,6 @@ unborn_tracks entries id none = elim (info_of entries id) as (λ o. is_some o �
       | Some info ↦ λ e. absurd cc
     ] none.info
 
-is_some-or : {X : Type 0} (o : Option X) (x : X) → is_some (option_or o (Some x)) ≡ true
-is_some-or None x = refl
-is_some-or (Some y) x = refl
-
 in_order_published : (entries : List Entry) (id which : ℕ) (s : PublishedTree) → IsOrderly entries
     → MayFollow entries (Published id which s) → which ≡ published_count entries id
     → IsInOrder (entries ++ Published id which s ∷ []) id
@@ -143,7 +111,7 @@ in_order_published entries id which s orderly may turn =
     ap (λ o. option_map_or (λ (info : TraceInfo). length info.names.tracks) o 0) may.2.1.1 in
     let same : tracks_of (entries ++ Published id which s ∷ []) id ≡ tracks_of entries id =
     ap (λ o. option_map_or (λ (info : TraceInfo). length info.names.tracks) o 0)
-    (info_more entries (Published id which s) id ∙ or_none _) in
+    (info_more entries (Published id which s) id ∙ or_None _) in
     let below : which < length may.2.1.0.names.tracks = may.2.1.2 in
     record {
       counted = omega arith;
@@ -159,14 +127,14 @@ in_order_published entries id which s orderly may turn =
             | inl at ↦
                 let last : ltb track (published_count entries id + 1) ≡ true = grind (arith, nat_tests) in
                 ap is_some now ∙ ap (λ b. is_some
-                (option_or (published_of entries id track) (cond b (Some s) None))) at.0 ∙ is_some-or
+                (option_or (published_of entries id track) (cond b (Some s) None))) at.0 ∙ or_Some
                 (published_of entries id track) s ∙ sym last ∙ ap (ltb track) (sym count)
             | inr off ↦
                 let lasts : ltb track (published_count entries id + 1) ≡ ltb track
                 (published_count entries id) = grind (arith, nat_tests) in
                 ap is_some now ∙ ap (λ b. is_some
                 (option_or (published_of entries id track) (cond b (Some s) None))) off.0 ∙ ap is_some
-                (or_none _) ∙ was ∙ sym lasts ∙ ap (ltb track) (sym count)
+                (or_None _) ∙ was ∙ sym lasts ∙ ap (ltb track) (sym count)
           ];
     }
 
@@ -180,7 +148,7 @@ in_order_more entries (Opened other info) id orderly may turn about was =
     record {
       counted = omega arith;
       in_order = λ track. let same : published_of (entries ++ Opened other info ∷ []) id track ≡ published_of
-          entries id track = published_more entries (Opened other info) id track ∙ or_none _
+          entries id track = published_more entries (Opened other info) id track ∙ or_None _
           in rw (same, count) (was.in_order track);
     }
 in_order_more entries (Published other which s) id orderly may turn about was =

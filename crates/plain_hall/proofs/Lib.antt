@@ -8,9 +8,6 @@ pub mod Legal
 pub mod OpenRoots
 pub mod Passes
 pub mod Publishing
-pub mod SampleStakes
-pub mod SampleTracks
-pub mod Samples
 pub mod Steps
 pub mod Told
 pub mod WholeAfter

@@ -8,13 +8,13 @@ use Rattle.std.proofs.lemmas.List.Elements.{filter_map-append}
 use Rattle.std.proofs.lemmas.List.Sums.{sum_by-cons}
 use Rattle.std.proofs.lemmas.Bool.{eq-eqb}
 use Rattle.std.proofs.lemmas.Bool.Decides.{eqb_tells, nat_tests}
+use Rattle.list_lemmas.proofs.AroundOne.{AgreeBut}
 use Rattle.trace_base.specs.declared.names.TraceInfo.{TraceInfo}
-use Rattle.node_key.specs.History.{EntryOf, Opened, Published, Sealed, Dropped, Closed, Asked, publishes}
-use Rattle.node_key.specs.History.{is_open, published_count}
-use Rattle.node_key.specs.Left.{published_if, open_published}
+use Rattle.hall_history.specs.History.{EntryOf, Opened, Published, Sealed, Dropped, Closed, Asked, publishes}
+use Rattle.hall_history.specs.History.{is_open, published_count}
+use Rattle.hall_history.specs.Left.{published_if, open_published}
 use Rattle.plain_hall.specs.Spots.{all_published}
 use Rattle.plain_hall.proofs.Passes.{others_agree}
-use Rattle.node_key.proofs.Ranges.{AgreeBut}
 
 -- one entry more
 open_more : {X : Type 0} (entries : List (EntryOf X)) (e : EntryOf X) (o : Option X)

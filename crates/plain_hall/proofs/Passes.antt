@@ -1,7 +1,7 @@
 -- What an entry does to the passes, the promised places and the open traces.
-use Rattle.std.proofs.Common.{◌≡◌, ℕ, ◌+◌, ◌-◌, ◌<◌, ◌≤◌, Bool, true, false, ◌&&◌, ◌||◌, not, cond, eqb, List}
+use Rattle.std.proofs.Common.{◌≡◌, ℕ, ◌+◌, ◌-◌, ◌<◌, ◌≤◌, true, false, ◌&&◌, ◌||◌, not, cond, eqb, List}
 use Rattle.std.proofs.Common.{[], ◌∷◌, ◌++◌, length, map, filter, sum_by, Option, None, Some, refl, sym, ap}
-use Rattle.std.proofs.Common.{ap₂, ◌∙◌, arith, length-append, append_assoc, get_or, Contains}
+use Rattle.std.proofs.Common.{ap₂, ◌∙◌, arith, length-append, get_or, Contains}
 use Rattle.std.specs.Prelude.{is_some}
 use Rattle.std.specs.List.{list_any}
 use Rattle.std.specs.Option.{option_map_or, option_or}
@@ -11,20 +11,27 @@ use Rattle.std.proofs.lemmas.List.Elements.{filter-append, filter_passes}
 use Rattle.std.proofs.lemmas.List.Folds.{list_any-append}
 use Rattle.std.proofs.lemmas.List.Sums.{sum_by-append}
 use Rattle.std.proofs.lemmas.Bool.{eq-eqb}
+use Rattle.std.proofs.lemmas.Bool.{or_right}
+use mathlib.Core.Bool.{or-false}
+use Rattle.list_lemmas.proofs.AroundOne.{AgreeBut, Around, Lacks, Lacks-filter, filter_same, filters_around}
+use Rattle.list_lemmas.proofs.AroundOne.{map_same, range_below, sum_same}
+use Rattle.list_lemmas.proofs.Booleans.{and_not}
+use Rattle.list_lemmas.proofs.Found.{any_more}
+use Rattle.list_lemmas.proofs.Maps.{map_middle}
+use Rattle.list_lemmas.proofs.Sums.{sum_by-middle}
 use Rattle.trace_base.specs.declared.names.TraceInfo.{TraceInfo}
-use Rattle.node_key.specs.History.{EntryOf, Opened, Published, Sealed, Dropped, Asked, seals, ends}
-use Rattle.node_key.specs.History.{opened_ids, info_of, is_open, is_loading, open_ids, tracks_of}
-use Rattle.node_key.specs.History.{published_count, promised}
+use Rattle.hall_history.specs.History.{EntryOf, Opened, Published, Sealed, Dropped, Asked, seals, ends}
+use Rattle.hall_history.specs.History.{opened_ids, info_of, is_open, is_loading, open_ids, tracks_of}
+use Rattle.hall_history.specs.History.{published_count, promised}
 use Rattle.plain_hall.specs.Loading.{loading_ids, pass_of, passes_of}
 use Rattle.plain_hall.specs.Orderly.{IsOrderly}
-use Rattle.node_key.specs.Seat.{Adds, Removes, Replaces}
-use Rattle.node_key.specs.declared.seat.PassView.{PassView}
-use Rattle.plain_hall.proofs.Legal.{open_within, loading_open}
-use Rattle.node_key.proofs.HistoryMore.{SameData, SameFate, subject, opened_more, info_more, count_more, any_more}
-use Rattle.node_key.proofs.HistoryMore.{or_false, data_of_others, fate_of_others, data_asked, fate_asked}
-use Rattle.node_key.proofs.HistoryMore.{fate_published, open_same, loading_same, tracks_same}
-use Rattle.node_key.proofs.Ranges.{Lacks, AgreeBut, Around, filters_around, map_same, sum_same, filter_same}
-use Rattle.node_key.proofs.Ranges.{range_below, Lacks-filter}
+use Rattle.hall_history.specs.Seat.{Adds, Removes, Replaces}
+use Rattle.hall_history.specs.declared.seat.PassView.{PassView}
+use Rattle.plain_hall.proofs.Legal.{open_within}
+use Rattle.hall_history.proofs.HistoryMore.{SameData, SameFate, subject, opened_more, info_more, count_more}
+use Rattle.hall_history.proofs.HistoryMore.{data_of_others, fate_of_others, data_asked, fate_asked}
+use Rattle.hall_history.proofs.HistoryMore.{fate_published, open_same, loading_same, tracks_same}
+use Rattle.hall_history.proofs.HistoryFronts.{loading_open}
 
 -- the places that are promised to the trace, if it is loading
 abbrev pub promise_of : {X : Type 0} → List (EntryOf X) → ℕ → ℕ
@@ -97,17 +104,6 @@ asked_keeps entries =
       ids = ids;
     }
 
--- a sum and a map over the parts
-sum_mid : (f : ℕ → ℕ) (front mid back : List ℕ) → sum_by f (front ++ mid ++ back) ≡ sum_by f front
-    + sum_by f mid + sum_by f back
-sum_mid f front mid back = sum_by-append f (front ++ mid) back ∙ ap (λ n. n + sum_by f back)
-    (sum_by-append f front mid)
-
-map_mid : {X : Type 0} (f : ℕ → X) (front : List ℕ) (id : ℕ) (back : List ℕ)
-    → map f (front ++ id ∷ [] ++ back) ≡ map f front ++ f id ∷ map f back
-map_mid f front id back = map-append f (front ++ id ∷ []) back ∙ ap (λ xs. xs ++ map f back)
-    (map-append f front (id ∷ [])) ∙ append_assoc (map f front) (f id ∷ []) (map f back)
-
 -- One pass goes on, with one promised place fewer.
 pub record GoesOn {X : Type 0} (old new : List (EntryOf X)) (id : ℕ) : Type 0 where
   pub passes : Replaces (passes_of old) (passes_of new) (pass_of old id) (pass_of new id)
@@ -137,9 +133,9 @@ published_goes_on entries id track s orderly loading =
     agree.passes parts.lacks_back in
     let sum_was : promised entries ≡ sum_by (promise_of entries) parts.front
     + sum_by (promise_of entries) (id ∷ []) + sum_by (promise_of entries) parts.back =
-    ap (sum_by (promise_of entries)) was ∙ sum_mid _ parts.front (id ∷ []) parts.back in
+    ap (sum_by (promise_of entries)) was ∙ sum_by-middle _ parts.front (id ∷ []) parts.back in
     let sum_is : promised new ≡ sum_by (promise_of new) parts.front + sum_by (promise_of new) (id ∷ [])
-    + sum_by (promise_of new) parts.back = ap (sum_by (promise_of new)) is ∙ sum_mid _ parts.front
+    + sum_by (promise_of new) parts.back = ap (sum_by (promise_of new)) is ∙ sum_by-middle _ parts.front
     (id ∷ []) parts.back in
     let sum_front : sum_by (promise_of new) parts.front ≡ sum_by (promise_of entries) parts.front =
     sum_same _ _ id parts.front agree.promises parts.lacks_front in
@@ -149,8 +145,8 @@ published_goes_on entries id track s orderly loading =
       passes = record {
         front = map (pass_of entries) parts.front;
         back = map (pass_of entries) parts.back;
-        was = ap (map (pass_of entries)) was ∙ map_mid (pass_of entries) parts.front id parts.back;
-        now = ap (map (pass_of new)) is ∙ map_mid (pass_of new) parts.front id parts.back ∙ ap₂
+        was = ap (map (pass_of entries)) was ∙ map_middle (pass_of entries) parts.front id parts.back;
+        now = ap (map (pass_of new)) is ∙ map_middle (pass_of new) parts.front id parts.back ∙ ap₂
             (λ xs ys. xs ++ pass_of new id ∷ ys) front back;
       };
       promises = omega arith;
@@ -178,10 +174,10 @@ ends_by old new id orderly loading ended ids agree =
     let back : map (pass_of new) parts.back ≡ map (pass_of old) parts.back = map_same _ _ id parts.back
     agree.passes parts.lacks_back in
     let sum_was : promised old ≡ sum_by (promise_of old) parts.front + sum_by (promise_of old) (id ∷ [])
-    + sum_by (promise_of old) parts.back = ap (sum_by (promise_of old)) was ∙ sum_mid _ parts.front
+    + sum_by (promise_of old) parts.back = ap (sum_by (promise_of old)) was ∙ sum_by-middle _ parts.front
     (id ∷ []) parts.back in
     let sum_is : promised new ≡ sum_by (promise_of new) parts.front + sum_by (promise_of new) []
-    + sum_by (promise_of new) parts.back = ap (sum_by (promise_of new)) is ∙ sum_mid _ parts.front []
+    + sum_by (promise_of new) parts.back = ap (sum_by (promise_of new)) is ∙ sum_by-middle _ parts.front []
     parts.back in
     let sum_front : sum_by (promise_of new) parts.front ≡ sum_by (promise_of old) parts.front =
     sum_same _ _ id parts.front agree.promises parts.lacks_front in
@@ -191,7 +187,7 @@ ends_by old new id orderly loading ended ids agree =
       passes = record {
         front = map (pass_of old) parts.front;
         back = map (pass_of old) parts.back;
-        was = ap (map (pass_of old)) was ∙ map_mid (pass_of old) parts.front id parts.back;
+        was = ap (map (pass_of old)) was ∙ map_middle (pass_of old) parts.front id parts.back;
         now = ap (map (pass_of new)) is ∙ map-append (pass_of new) (parts.front ++ []) parts.back ∙ ap
             (λ xs. map (pass_of new) xs ++ map (pass_of new) parts.back) (append-nil parts.front) ∙ ap₂ ◌++◌
             front back;
@@ -200,20 +196,12 @@ ends_by old new id orderly loading ended ids agree =
       ids = ids;
     }
 
-pub or_true : (a b : Bool) → b ≡ true → (a || b) ≡ true
-or_true true b e = refl
-or_true false b e = e
-
-pub and_not : (a b : Bool) → b ≡ true → (a && not b) ≡ false
-and_not true b e = ap not e
-and_not false b e = refl
-
 pub sealed_ends : {X : Type 0} → (entries : List (EntryOf X)) (id : ℕ) → IsOrderly entries → is_loading entries id ≡ true
     → Ends entries (entries ++ Sealed id ∷ []) id
 unfolding is_loading
 sealed_ends entries id orderly loading =
     let new = entries ++ Sealed id ∷ [] in
-    let sealed : list_any (seals id) new ≡ true = any_more (seals id) entries (Sealed id) ∙ or_true _ _
+    let sealed : list_any (seals id) new ≡ true = any_more (seals id) entries (Sealed id) ∙ or_right _ _
     (eq-eqb id id refl) in
     ends_by entries new id orderly loading (and_not (is_open new id) _ sealed)
     (opened_more entries (Sealed id) ∙ append-nil _) (others_agree entries (Sealed id))
@@ -226,13 +214,13 @@ sealed_opens entries id =
     let new = entries ++ Sealed id ∷ [] in
     let ids : opened_ids new ≡ opened_ids entries = opened_more entries (Sealed id) ∙ append-nil _ in
     let opens : is_open new ≡ is_open entries =
-    fun_ext (λ x. open_same_by entries new x ids (any_more (ends x) entries (Sealed id) ∙ or_false _)) in
+    fun_ext (λ x. open_same_by entries new x ids (any_more (ends x) entries (Sealed id) ∙ or-false _)) in
     ap length (ap₂ filter opens ids)
 
 pub dropped_closed : {X : Type 0} → (entries : List (EntryOf X)) (id : ℕ) → is_open (entries ++ Dropped id ∷ []) id ≡ false
 unfolding is_open
 dropped_closed entries id = and_not (list_any (λ other. eqb other id)
-    (opened_ids (entries ++ Dropped id ∷ []))) _ (any_more (ends id) entries (Dropped id) ∙ or_true _ _
+    (opened_ids (entries ++ Dropped id ∷ []))) _ (any_more (ends id) entries (Dropped id) ∙ or_right _ _
     (eq-eqb id id refl))
 
 pub dropped_ends : {X : Type 0} → (entries : List (EntryOf X)) (id : ℕ) → IsOrderly entries → is_loading entries id ≡ true
@@ -287,7 +275,7 @@ opened_on entries id info orderly above =
     let new = entries ++ Opened id info ∷ [] in
     let among : list_any (λ other. eqb other id) (opened_ids new) ≡ true =
     ap (list_any (λ other. eqb other id)) (opened_more entries (Opened id info)) ∙ list_any-append
-    (λ other. eqb other id) (opened_ids entries) (id ∷ []) ∙ or_true _ _
+    (λ other. eqb other id) (opened_ids entries) (id ∷ []) ∙ or_right _ _
     (ap (λ b. b || false) (eq-eqb id id refl)) in
     let on : list_any (ends id) new ≡ false = any_more (ends id) entries (Opened id info) ∙ ap
     (λ b. b || false) (orderly.unborn id above).ended in

@@ -4,17 +4,20 @@ use Rattle.std.proofs.Common.{ap, ◌∙◌, subst, true}
 use Rattle.std.specs.Prelude.{is_some, IsSome}
 use Rattle.std.specs.Option.{option_map}
 use Rattle.std.proofs.lemmas.List.{take-map}
+use Rattle.std.proofs.lemmas.Option.{cond_some}
+use Rattle.list_lemmas.proofs.Found.{given_from_first}
 use Rattle.trace_base.specs.declared.stream.TrackStream.{TrackStream}
-use Rattle.hall_trait.proofs.Legal.{legal_before}
+use Rattle.hall_history.proofs.Legal.{legal_before}
 use Rattle.hall_trait.specs.Nodes.{TellsTrack}
-use Rattle.trace_base.specs.declared.published.Published.TheVariants as told
-use Rattle.node_key.specs.History.{Entry, EntryOf, Opened, Published, Sealed, Dropped, Closed, Asked, published_as}
-use Rattle.node_key.specs.History.{published_of, published_tree}
+use Rattle.hall_history.specs.declared.published.Published.TheVariants as told
+use Rattle.hall_history.specs.History.{Entry, EntryOf, Opened, Published, Sealed, Dropped, Closed, Asked}
+use Rattle.hall_history.specs.History.{published_as, published_of, published_tree}
 use Rattle.node_key.specs.Stakes.{HasStakes, stake}
 use Rattle.node_key.specs.Stands.{KeyAt, Stands}
 use Rattle.node_key.specs.Tree.{Tree}
 use Rattle.node_key.specs.Trees.{tree}
 use Rattle.node_key.specs.declared.key.NodeKey.{NodeKey}
+use Rattle.hall_history.proofs.HistoryFronts.{published_stays}
 use Rattle.store_laws.proofs.SumsOfStakes.{among_held}
 use Rattle.node_store.proofs.TreesUnder.{tree_is}
 use Rattle.node_store.specs.Given.{ever, stakes_of}
@@ -24,7 +27,7 @@ use Rattle.plain_hall.specs.HallLaws.{stakes_stand}
 use Rattle.plain_hall.specs.Rooted.{NamesNode, told_by, tree_of_root, with_trees}
 use Rattle.plain_hall.specs.Whole.{IsSoundHall}
 use Rattle.plain_hall.specs.declared.root.Root.{Root}
-use Rattle.plain_hall.proofs.Found.{cond_some, found, published_fits, published_stays}
+use Rattle.plain_hall.proofs.Found.{published_fits}
 use Rattle.plain_hall.proofs.Told.{published_of-told}
 
 -- a number with a stake stands for its tree
@@ -60,7 +63,7 @@ root_stands : (nodes : NodesKept) (entries : List (EntryOf Root)) (owed live id 
     → Stands (ever nodes.given) r.node (tree_under (ever nodes.given) r.node)
 unfolding published_of
 root_stands nodes entries owed live id track r whole at =
-    let from = found (published_as id track) entries r at in
+    let from = given_from_first (published_as id track) entries r at in
     go (ever nodes.given r.node) refl
     (names_root (ever nodes.given) id track from.1 r from.3 (whole.numbered from.0 from.1 from.2))
   where

@@ -1,27 +1,30 @@
 -- What each entry leaves of the facts that a plain hall keeps, and what its seat is then.
 use Rattle.std.proofs.Common.{◌≡◌, ℕ, ◌+◌, ◌-◌, ◌<◌, ◌≤◌, true, cond, List, [], ◌∷◌, ◌++◌, length}
-use Rattle.std.proofs.Common.{Option, None, Some, refl, sym, ap, ◌∙◌, subst, arith, length-append}
-use Rattle.std.specs.List.{range_with_len, filter_map, cons_option}
+use Rattle.std.proofs.Common.{Option, Some, refl, sym, ap, ◌∙◌, subst, arith, length-append}
+use Rattle.std.specs.List.{range_with_len}
 use Rattle.std.specs.Option.{option_map_or}
 use Rattle.std.proofs.lemmas.List.{append-nil}
 use Rattle.std.proofs.lemmas.Bool.Decides.{nat_tests}
 use Rattle.std.proofs.lemmas.Bool.{eq-eqb}
+use Rattle.list_lemmas.proofs.Filters.{length-filter_map}
+use Rattle.list_lemmas.proofs.Options.{or_None}
+use Rattle.list_lemmas.proofs.Ranges.{range_with_len-more}
 use Rattle.trace_base.specs.Info.{IsLegalInfo}
 use Rattle.trace_base.specs.declared.limits.TheConstants.{MAX_OPEN_TRACES, MAX_PLACES}
 use Rattle.trace_base.specs.declared.names.TraceInfo.{TraceInfo}
 use Rattle.hall_trait.specs.Answers.{HasRoom, places_of_load}
-use Rattle.node_key.specs.History.{Entry, Opened, Published, Sealed, Dropped, Asked, opened_id, opened_ids}
-use Rattle.node_key.specs.History.{open_ids, info_of, is_loading, tracks_of, published_count}
-use Rattle.node_key.specs.History.{promised, IsTrackTree, MayFollow, PublishedTree}
+use Rattle.hall_history.specs.History.{Entry, Opened, Published, Sealed, Dropped, Asked, opened_id}
+use Rattle.hall_history.specs.History.{opened_ids, open_ids, info_of, is_loading, tracks_of, published_count}
+use Rattle.hall_history.specs.History.{promised, IsTrackTree, MayFollow, PublishedTree}
 use Rattle.plain_hall.specs.Kept.{IsKept}
 use Rattle.plain_hall.specs.PlainSeat.{plain_seat}
-use Rattle.node_key.specs.Seat.{MakesEntry}
-use Rattle.node_key.specs.declared.seat.PinView.{PinView}
+use Rattle.hall_history.specs.Seat.{MakesEntry}
+use Rattle.hall_history.specs.declared.seat.PinView.{PinView}
 use Rattle.node_key.specs.declared.stake.Stake.{Stake}
 use Rattle.plain_hall.proofs.Found.{not_published}
-use Rattle.hall_trait.proofs.Legal.{legal_more}
-use Rattle.plain_hall.proofs.Legal.{orderly_more, orderly_none, range_more}
-use Rattle.node_key.proofs.HistoryMore.{count_more, info_more, or_none}
+use Rattle.hall_history.proofs.Legal.{legal_more}
+use Rattle.plain_hall.proofs.Legal.{orderly_more, orderly_none}
+use Rattle.hall_history.proofs.HistoryMore.{count_more, info_more}
 use Rattle.plain_hall.proofs.Passes.{promise_of, asked_keeps, published_goes_on, sealed_ends, sealed_opens}
 use Rattle.plain_hall.proofs.Passes.{dropped_ends, dropped_opens, opened_opens}
 
@@ -37,7 +40,8 @@ makes stakes left old new pins now e place seen last =
       lone = refl;
       seen = seen;
       last = last;
-      places = ap (range_with_len 1) n ∙ sym (range_more 1 (length old)) ∙ ap
+      places = ap (range_with_len 1) n ∙ sym ((sym (range_with_len-more 1 (length old) (1 + (length old))
+          refl))) ∙ ap
           (λ p. range_with_len 1 (length old) ++ p ∷ []) (sym next);
     }
 
@@ -95,7 +99,7 @@ kept_published old new owed live id track p seen loading of_stream turn was =
     id ∙ ap (λ b. published_count old id + cond b 1 0) (eq-eqb id id refl) in
     let tracks : tracks_of added id ≡ tracks_of old id =
     ap (λ o. option_map_or (λ (i : TraceInfo). length i.names.tracks) o 0)
-    (info_more old (Published id track p) id ∙ or_none _) in
+    (info_more old (Published id track p) id ∙ or_None _) in
     let told : tracks_of old id ≡ length fits.0.names.tracks = told_tracks (info_of old id) fits.0 fits.1 in
     let below : track < length fits.0.names.tracks = fits.2 in
     let fewer : promised old ≡ promised added + 1 = omega (arith, on.promises) in
@@ -150,11 +154,6 @@ kept_none entries none = subst (λ (es : List Entry). IsKept es 0 0) (sym none) 
   few = omega arith;
   fits = omega arith;
 })
-
-length-filter_map : {X Y : Type 0} (h : X → Option Y) (xs : List X) → length (filter_map h xs) ≤ length xs
-length-filter_map h [] = omega arith
-length-filter_map h (x ∷ xs) = elim (h x) as (λ o. length (cons_option o (filter_map h xs)) ≤ length (x ∷ xs))
-    [ None ↦ omega (arith, length-filter_map h xs) | Some y ↦ omega (arith, length-filter_map h xs) ]
 
 -- no more ids than entries
 pub given_few : (entries : List Entry) (owed live : ℕ) → IsKept entries owed live

@@ -6,11 +6,14 @@ use Rattle.std.specs.List.{list_any, filter_map, cons_option}
 use Rattle.std.specs.Option.{option_map, option_map_or}
 use Rattle.std.proofs.Math.Path.{fun_ext}
 use Rattle.std.proofs.lemmas.Option.{slice_get-map}
+use Rattle.list_lemmas.proofs.Fronts.{length-cond}
+use Rattle.list_lemmas.proofs.Maps.{map_agree_at}
+use Rattle.list_lemmas.proofs.Options.{cons_option-map, is_some-map, option_map-cond}
 use Rattle.trace_base.specs.declared.names.TraceInfo.{TraceInfo}
-use Rattle.node_key.specs.History.{EntryOf, Opened, Published, Sealed, Dropped, Closed, Asked}
-use Rattle.node_key.specs.History.{opened_id, info_opened, published_as, publishes, seals, ends, opened_ids}
-use Rattle.node_key.specs.History.{info_of, published_of, is_open, tracks_of, published_count}
-use Rattle.node_key.specs.Left.{published_if, open_published}
+use Rattle.hall_history.specs.History.{EntryOf, Opened, Published, Sealed, Dropped, Closed, Asked, opened_id}
+use Rattle.hall_history.specs.History.{info_opened, published_as, publishes, seals, ends, opened_ids, info_of}
+use Rattle.hall_history.specs.History.{published_of, is_open, tracks_of, published_count}
+use Rattle.hall_history.specs.Left.{published_if, open_published}
 use Rattle.node_key.specs.Stands.{KeyAt}
 use Rattle.node_store.specs.TreeUnder.{tree_under}
 use Rattle.plain_hall.specs.Orderly.{IsOrderly}
@@ -62,14 +65,10 @@ publishes-told f id (Dropped other) = refl
 publishes-told f id (Closed other) = refl
 publishes-told f id Asked = refl
 
-told_if : {X Y : Type 0} (f : X → Y) (b : Bool) (x : X)
-    → cond b (Some (f x)) None ≡ option_map f (cond b (Some x) None)
-told_if f true x = refl
-told_if f false x = refl
-
 published_as-told : {X Y : Type 0} (f : X → Y) (id track : ℕ) (e : EntryOf X)
     → published_as id track (told_by f e) ≡ option_map f (published_as id track e)
-published_as-told f id track (Published other which what) = told_if f (eqb other id && eqb which track) what
+published_as-told f id track (Published other which what) = option_map-cond f (eqb other id && eqb which
+    track) what
 published_as-told f id track (Opened other info) = refl
 published_as-told f id track (Sealed other) = refl
 published_as-told f id track (Dropped other) = refl
@@ -78,7 +77,7 @@ published_as-told f id track Asked = refl
 
 published_if-told : {X Y : Type 0} (f : X → Y) (test : ℕ → Bool) (e : EntryOf X)
     → published_if test (told_by f e) ≡ option_map f (published_if test e)
-published_if-told f test (Published id track what) = told_if f (test id) what
+published_if-told f test (Published id track what) = option_map-cond f (test id) what
 published_if-told f test (Opened id info) = refl
 published_if-told f test (Sealed id) = refl
 published_if-told f test (Dropped id) = refl
@@ -93,16 +92,12 @@ told_filter : {X Y Z : Type 0} (f : X → Y) (h : EntryOf Y → Option Z) (g : E
 told_filter f h g [] same = refl
 told_filter f h g (e ∷ entries) same = ap₂ cons_option (same e) (told_filter f h g entries same)
 
-cons_told : {X Y : Type 0} (f : X → Y) (o : Option X) (xs : List X)
-    → cons_option (option_map f o) (map f xs) ≡ map f (cons_option o xs)
-cons_told f None xs = refl
-cons_told f (Some x) xs = refl
-
 told_values : {X Y : Type 0} (f : X → Y) (h : EntryOf Y → Option Y) (g : EntryOf X → Option X)
     (entries : List (EntryOf X)) → ((e : EntryOf X) → h (told_by f e) ≡ option_map f (g e))
     → filter_map h (map (told_by f) entries) ≡ map f (filter_map g entries)
 told_values f h g [] same = refl
-told_values f h g (e ∷ entries) same = ap₂ cons_option (same e) (told_values f h g entries same) ∙ cons_told f
+told_values f h g (e ∷ entries) same = ap₂ cons_option (same e) (told_values f h g entries same)
+    ∙ cons_option-map f
     (g e) (filter_map g entries)
 
 told_any : {X Y : Type 0} (f : X → Y) (p : EntryOf Y → Bool) (q : EntryOf X → Bool) (entries : List (EntryOf X))
@@ -110,17 +105,14 @@ told_any : {X Y : Type 0} (f : X → Y) (p : EntryOf Y → Bool) (q : EntryOf X 
 told_any f p q [] same = refl
 told_any f p q (e ∷ entries) same = ap₂ ◌||◌ (same e) (told_any f p q entries same)
 
-length-if : {X : Type 0} (b : Bool) (x : X) (xs : List X) → length (cond b (x ∷ xs) xs) ≡ cond b 1 0 + length xs
-length-if true x xs = omega arith
-length-if false x xs = omega arith
-
 told_count : {X Y : Type 0} (f : X → Y) (p : EntryOf Y → Bool) (q : EntryOf X → Bool)
     (entries : List (EntryOf X)) → ((e : EntryOf X) → p (told_by f e) ≡ q e)
     → length (filter p (map (told_by f) entries)) ≡ length (filter q entries)
 told_count f p q [] same = refl
-told_count f p q (e ∷ entries) same = length-if (p (told_by f e)) (told_by f e) (filter p (map (told_by f) entries))
+told_count f p q (e ∷ entries) same = length-cond (p (told_by f e)) (told_by f e) (filter p (map (told_by f)
+    entries))
     ∙ ap₂ (λ b n. cond b 1 0 + n) (same e) (told_count f p q entries same) ∙ sym
-    (length-if (q e) e (filter q entries))
+    (length-cond (q e) e (filter q entries))
 
 pub opened_ids-told : {X Y : Type 0} (f : X → Y) (entries : List (EntryOf X))
     → opened_ids (map (told_by f) entries) ≡ opened_ids entries
@@ -171,10 +163,6 @@ open_published-told f entries = ap (λ test. filter_map (published_if test) (map
     (fun_ext (is_open-told f entries)) ∙ told_values f (published_if (is_open entries))
     (published_if (is_open entries)) entries (published_if-told f (is_open entries))
 
-is_some-told : {X Y : Type 0} (f : X → Y) (o : Option X) → is_some (option_map f o) ≡ is_some o
-is_some-told f None = refl
-is_some-told f (Some x) = refl
-
 -- a history is orderly if it is with trees
 pub orderly_untold : {X Y : Type 0} (f : X → Y) (entries : List (EntryOf X)) → IsOrderly (map (told_by f) entries)
     → IsOrderly entries
@@ -192,18 +180,13 @@ orderly_untold f entries was =
           };
       counted = λ id. omega
           (arith, was.counted id, tracks_of-told f entries id, published_count-told f entries id);
-      in_order = λ id track. sym (ap is_some (published_of-told f entries id track) ∙ is_some-told f
+      in_order = λ id track. sym (ap is_some (published_of-told f entries id track) ∙ is_some-map f
           (published_of entries id track)) ∙ was.in_order id track ∙ ap
           (λ n. Rattle.std.specs.Prelude.nat_lt track n)
           (published_count-told f entries id);
     }
 
 -- ---- with other keys
-
-map_same_at : {X Y : Type 0} (f g : X → Y) (xs : List X)
-    → ((k : ℕ) (x : X) → slice_get xs k ≡ Some x → f x ≡ g x) → map f xs ≡ map g xs
-map_same_at f g [] same = refl
-map_same_at f g (x ∷ xs) same = ap₂ ◌∷◌ (same 0 x refl) (map_same_at f g xs (λ k y at. same (suc k) y at))
 
 -- the keys stand for the same trees, as far as these go
 abbrev pub SameTrees : KeyAt → KeyAt → Type 0
@@ -226,7 +209,7 @@ same_entry before after Asked same there = refl
 -- so the history is the same with trees
 pub with_trees-same : (before after : KeyAt) (entries : List (EntryOf Root)) → SameTrees before after
     → NameNodes before entries → with_trees after entries ≡ with_trees before entries
-with_trees-same before after entries same there = map_same_at _ _ entries
+with_trees-same before after entries same there = map_agree_at _ _ entries
     (λ k e at. same_entry before after e same (there k e at))
 
 same_stakes : (before after : KeyAt) (test : ℕ → Bool) (entries : List (EntryOf Root)) → SameTrees before after

@@ -4,18 +4,23 @@ use Rattle.std.proofs.Common.{map, Option, None, Some, refl, sym, ap, ◌∙◌,
 use Rattle.std.specs.Prelude.{slice_get, is_some, IsSome}
 use Rattle.std.proofs.Math.Path.{fun_ext}
 use Rattle.std.proofs.lemmas.List.{append-nil, map-append}
+use mathlib.Core.Bool.{or-false}
+use Rattle.list_lemmas.proofs.Found.{any_more}
+use Rattle.list_lemmas.proofs.Positions.{last_or_before}
 use Rattle.trace_base.specs.Info.{IsLegalInfo}
 use Rattle.trace_base.specs.declared.limits.TheConstants.{MAX_OPEN_TRACES}
 use Rattle.trace_base.specs.declared.names.TraceInfo.{TraceInfo}
-use Rattle.node_key.proofs.HistoryMore.{any_more, data_asked, fate_asked, fate_published, open_same, opened_more, or_false}
+use Rattle.hall_history.proofs.HistoryMore.{data_asked, fate_asked, fate_published, open_same, opened_more}
 use Rattle.hall_trait.specs.Answers.{HasRoom, places_of_load}
-use Rattle.node_key.specs.History.{Entry, EntryOf, Opened, Published, Sealed, Dropped, Asked, opened_ids, ends}
-use Rattle.node_key.specs.History.{is_loading, is_open, published_count, tracks_of, IsTrackTree}
-use Rattle.node_key.specs.Left.{open_published}
+use Rattle.hall_history.specs.History.{Entry, EntryOf, Opened, Published, Sealed, Dropped, Asked, opened_ids}
+use Rattle.hall_history.specs.History.{ends, is_loading, is_open, published_count, tracks_of, IsTrackTree}
+use Rattle.hall_history.specs.Left.{open_published}
 use Rattle.node_key.specs.Stakes.{same_stake, times}
 use Rattle.node_key.specs.declared.stake.Stake.{Stake}
 use Rattle.node_key.specs.Stands.{KeyAt}
 use Rattle.node_key.specs.declared.key.NodeKey.{NodeKey}
+use Rattle.hall_history.proofs.HistoryFronts.{loading_open}
+use Rattle.node_key.proofs.StakeLaws.{times-append}
 use Rattle.node_store.proofs.TreesUnder.{tree_still}
 use Rattle.node_store.specs.Given.{ever}
 use Rattle.node_store.specs.Kept.{AreKept, KeepsFor, KeepsNumbers, NodesKept}
@@ -25,9 +30,7 @@ use Rattle.plain_hall.specs.Rooted.{with_trees}
 use Rattle.plain_hall.specs.Spots.{all_published}
 use Rattle.plain_hall.specs.Whole.{IsSoundHall}
 use Rattle.plain_hall.specs.declared.root.Root.{Root}
-use Rattle.plain_hall.proofs.Finding.{last_or_before}
-use Rattle.plain_hall.proofs.Keeping.{keeps_same, times_both, times_first, times_of}
-use Rattle.plain_hall.proofs.Legal.{loading_open}
+use Rattle.plain_hall.proofs.Keeping.{keeps_same, times_first, times_of}
 use Rattle.plain_hall.proofs.OpenRoots.{open_dropped, open_opened, open_published-more, same_open}
 use Rattle.plain_hall.proofs.Passes.{dropped_closed, open_same_by, opened_opens, promise_of}
 use Rattle.plain_hall.proofs.Steps.{kept_asked, kept_dropped, kept_none, kept_opened, kept_published, kept_sealed}
@@ -93,7 +96,7 @@ whole_sealed s old new owed live id seen loading all was =
     let ids : opened_ids (old ++ Sealed id ∷ []) ≡ opened_ids old = opened_more old (Sealed id) ∙ append-nil _
     in
     let opens : is_open (old ++ Sealed id ∷ []) ≡ is_open old =
-    fun_ext (λ x. open_same_by old _ x ids (any_more (ends x) old (Sealed id) ∙ or_false _)) in
+    fun_ext (λ x. open_same_by old _ x ids (any_more (ends x) old (Sealed id) ∙ or-false _)) in
     record {
       kept = kept_sealed _ _ owed live id (seen_more (ever s.given) old new (Sealed id) seen) loading all was.kept;
       store = was.store;
@@ -124,7 +127,7 @@ whole_published s t old new owed live id track r seen same kept loading fits tur
     keeps_same t (root_stake key_at r ∷ root_stakes key_at old) (root_stakes key_at new) (λ x. omega (
       arith,
       times_first x (root_stake key_at r) (root_stakes key_at old),
-      times_both x (root_stakes key_at old) (root_stake key_at r ∷ []),
+      times-append x (root_stakes key_at old) (root_stake key_at r ∷ []),
       ap (times x) stakes,
     )) keeps in
     let P : KeyAt → Type 0 = λ k. IsKept (with_trees k new) (owed - 1) live in
@@ -155,7 +158,7 @@ roots_apart s old new id seen loading =
       times_of x (root_stake key_at) (all_published old id),
       times_of x (root_stake key_at) (open_published (old ++ Dropped id ∷ [])),
       ap (λ es. times x (root_stakes key_at es)) seen,
-      times_both x (map (root_stake key_at) (all_published old id)) (root_stakes key_at new),
+      times-append x (map (root_stake key_at) (all_published old id)) (root_stakes key_at new),
       open_dropped t old id on (dropped_closed old id),
     ))
 
@@ -201,7 +204,7 @@ still_named s t (Published id track r) keeps there = go (ever s.given r.node) re
 still_named s t (Opened id info) keeps there = tt
 still_named s t (Sealed id) keeps there = tt
 still_named s t (Dropped id) keeps there = tt
-still_named s t (Rattle.node_key.specs.History.Closed id) keeps there = tt
+still_named s t (Rattle.hall_history.specs.History.Closed id) keeps there = tt
 still_named s t Asked keeps there = tt
 
 pub seen_still : (s t : NodesKept) (entries : List (EntryOf Root)) (owed live : ℕ) → KeepsNumbers s t

@@ -1,6 +1,6 @@
 -- A history in which traces are found by their ids.
 use Rattle.std.specs.Prelude.{ℕ, List}
-use Rattle.node_key.specs.History.{EntryOf}
+use Rattle.hall_history.specs.History.{EntryOf}
 use Rattle.plain_hall.specs.KeptHistory.{history, HasSpace}
 use Rattle.plain_hall.specs.declared.found_history.FoundHistory.{FoundHistory}
 use Rattle.plain_hall.specs.declared.root.Root.{Root}

@@ -7,7 +7,7 @@ use Rattle.std.proofs.Common.{arith, ◌∙◌}
 use Rattle.std.proofs.lemmas.List.Elements.{Contains-append_left}
 use Rattle.std.proofs.lemmas.Option.{none-some}
 use Rattle.hall_trait.specs.Answers.{HasRoom}
-use Rattle.node_key.specs.History.{EntryOf}
+use Rattle.hall_history.specs.History.{EntryOf}
 use Rattle.node_key.specs.declared.stake.Stake.{Stake}
 use Rattle.node_key.specs.Stands.{Stands}
 use Rattle.node_key.specs.declared.key.NodeKey.{NodeKey}

@@ -4,9 +4,9 @@ use Rattle.std.specs.List.{flat_map}
 use Rattle.std.specs.Arc.{arc_value}
 use Rattle.std.proofs.Props.{props}
 use Rattle.trace_base.specs.declared.limits.TheConstants.{MAX_OPEN_TRACES, MAX_PLACES}
-use Rattle.node_key.specs.History.{Entry, EntryOf, Opened, Published, Sealed, Dropped, Asked}
-use Rattle.node_key.specs.History.{IsLegalHistory}
-use Rattle.node_key.specs.History.{open_ids, promised}
+use Rattle.hall_history.specs.History.{Entry, EntryOf, Opened, Published, Sealed, Dropped, Asked}
+use Rattle.hall_history.specs.History.{IsLegalHistory}
+use Rattle.hall_history.specs.History.{open_ids, promised}
 use Rattle.hall_trait.proofs.HistoryProps.{IsLegalHistory-prop}
 use Rattle.plain_hall.specs.Orderly.{IsOrderly}
 use Rattle.plain_hall.specs.declared.kept_entry.HistoryEntry.{HistoryEntry}

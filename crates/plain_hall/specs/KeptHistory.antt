@@ -1,7 +1,7 @@
 -- The history that a plain hall keeps.
 use Rattle.std.specs.Prelude.{ℕ, ◌+◌, ◌≤◌, List}
 use Rattle.std.specs.Vec.{vec_len, vec_capacity}
-use Rattle.node_key.specs.History.{EntryOf}
+use Rattle.hall_history.specs.History.{EntryOf}
 use Rattle.plain_hall.specs.Kept.{entries_of}
 use Rattle.plain_hall.specs.declared.kept_history.KeptHistory.{KeptHistory}
 use Rattle.plain_hall.specs.declared.root.Root.{Root}

@@ -1,8 +1,8 @@
 -- The passes over the loading traces of a history, one each.
 use Rattle.std.specs.Prelude.{ℕ, List, map, filter}
-use Rattle.node_key.specs.History.{EntryOf, opened_ids, is_loading, tracks_of, published_count}
+use Rattle.hall_history.specs.History.{EntryOf, opened_ids, is_loading, tracks_of, published_count}
 use Rattle.hall_trait.specs.Pass.{state_at}
-use Rattle.node_key.specs.declared.seat.PassView.{PassView}
+use Rattle.hall_history.specs.declared.seat.PassView.{PassView}
 
 -- the ids of the loading traces, in order
 abbrev pub loading_ids : {X : Type 0} → List (EntryOf X) → List ℕ

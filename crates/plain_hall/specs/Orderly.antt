@@ -1,8 +1,8 @@
 -- Histories in which the ids count up and each trace's tracks are published in order.
 use Rattle.std.specs.Prelude.{◌≡◌, ℕ, ◌<◌, ◌≤◌, false, nat_lt, is_some, List, length}
 use Rattle.std.specs.List.{list_any, range_with_len}
-use Rattle.node_key.specs.History.{EntryOf, opened_ids, info_of, published_of, tracks_of}
-use Rattle.node_key.specs.History.{published_count, seals, ends}
+use Rattle.hall_history.specs.History.{EntryOf, opened_ids, info_of, published_of, tracks_of}
+use Rattle.hall_history.specs.History.{published_count, seals, ends}
 
 -- no entry is about the trace
 pub record IsUnborn {X : Type 0} (entries : List (EntryOf X)) (id : ℕ) : Type 0 where

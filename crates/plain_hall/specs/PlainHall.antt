@@ -1,8 +1,8 @@
 -- What a plain hall is to its owner.
 use Rattle.std.specs.Prelude.{List, map}
 use Rattle.std.specs.Option.{option_to_list}
-use Rattle.node_key.specs.History.{Entry}
-use Rattle.node_key.specs.Seat.{Seat}
+use Rattle.hall_history.specs.History.{Entry}
+use Rattle.hall_history.specs.Seat.{Seat}
 use Rattle.node_store.specs.Given.{ever, stakes_of}
 use Rattle.plain_hall.specs.FoundHistory.{entries}
 use Rattle.plain_hall.specs.PlainSeat.{plain_seat, kept_view}

@@ -1,11 +1,11 @@
 -- The seat of a hall with one owner.
 use Rattle.std.specs.Prelude.{◌≤◌, List, length, take, IsSome}
 use Rattle.std.specs.List.{range_with_len}
-use Rattle.node_key.specs.History.{Entry, EntryOf, info_of}
+use Rattle.hall_history.specs.History.{Entry, EntryOf, info_of}
 use Rattle.plain_hall.specs.Loading.{passes_of}
 use Rattle.hall_trait.specs.Pin.{first_id, second_id}
-use Rattle.node_key.specs.Seat.{Seat}
-use Rattle.node_key.specs.declared.seat.PinView.{PinView}
+use Rattle.hall_history.specs.Seat.{Seat}
+use Rattle.hall_history.specs.declared.seat.PinView.{PinView}
 use Rattle.node_key.specs.declared.stake.Stake.{Stake}
 use Rattle.plain_hall.specs.declared.kept_pin.KeptPin.{KeptPin}
 

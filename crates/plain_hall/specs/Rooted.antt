@@ -1,8 +1,8 @@
 -- A kept history names roots, which stand for trees where keys are found by number.
 use Rattle.std.specs.Prelude.{◌≡◌, ℕ, List, map, slice_get, Some, IsSome}
-use Rattle.node_key.specs.History.{Entry, EntryOf, Opened, Published, Sealed, Dropped, Closed, Asked}
-use Rattle.node_key.specs.History.{PublishedTree}
-use Rattle.node_key.specs.Left.{open_published}
+use Rattle.hall_history.specs.History.{Entry, EntryOf, Opened, Published, Sealed, Dropped, Closed, Asked}
+use Rattle.hall_history.specs.History.{PublishedTree}
+use Rattle.hall_history.specs.Left.{open_published}
 use Rattle.node_key.specs.Stakes.{stake}
 use Rattle.node_key.specs.declared.stake.Stake.{Stake}
 use Rattle.node_key.specs.Stands.{KeyAt}

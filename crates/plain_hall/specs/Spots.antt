@@ -6,10 +6,10 @@ use Rattle.std.specs.List.{filter_map, list_any}
 use Rattle.std.specs.Vec.{vec_capacity}
 use base.Stored.{Coded-set}
 use Rattle.std.proofs.Props.{props}
-use Rattle.node_key.specs.History.{EntryOf, info_opened, ends, opened_ids, info_of}
-use Rattle.node_key.specs.History.{published_of}
-use Rattle.node_key.specs.Left.{published_if}
-use Rattle.node_key.specs.History.{tracks_of, published_count}
+use Rattle.hall_history.specs.History.{EntryOf, info_opened, ends, opened_ids, info_of}
+use Rattle.hall_history.specs.History.{published_of}
+use Rattle.hall_history.specs.Left.{published_if}
+use Rattle.hall_history.specs.History.{tracks_of, published_count}
 use Rattle.hall_trait.proofs.HistoryProps.{TraceInfo-set}
 use Rattle.node_key.specs.declared.stake.Stake.{Stake}
 use Rattle.node_store.specs.Given.{ever}

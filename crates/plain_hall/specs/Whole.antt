@@ -1,7 +1,7 @@
 -- What holds of a plain hall's history and store at every moment.
 use Rattle.std.specs.Prelude.{ℕ, List}
 use Rattle.std.proofs.Props.{props}
-use Rattle.node_key.specs.History.{EntryOf, Opened, Published, Sealed, Dropped, Closed, Asked}
+use Rattle.hall_history.specs.History.{EntryOf, Opened, Published, Sealed, Dropped, Closed, Asked}
 use Rattle.node_key.specs.Stands.{KeyAt}
 use Rattle.node_store.specs.Given.{ever}
 use Rattle.node_store.specs.Kept.{AreKept, KeepsFor, NodesKept}

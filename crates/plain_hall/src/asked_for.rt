@@ -1,7 +1,7 @@
 ghost use Rattle.std.specs.Prelude.{◌≡◌};
 ghost use Rattle.hall_trait.specs.Pin.{first_id, second_id};
 
-use trace_base::AskIds;
+use hall_history::AskIds;
 
 /// The first trace that is asked for.
 pub fn first_of(ids: AskIds) -> u64

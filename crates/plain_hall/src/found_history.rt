@@ -27,9 +27,9 @@ impl FoundHistory {
     ghost use Rattle.std.specs.Option.{option_copied, option_map};
     ghost use Rattle.std.specs.Vec.{vec_len, vec_capacity};
     ghost use Rattle.trace_base.specs.declared.limits.TheConstants.{MAX_PLACES};
-    ghost use Rattle.node_key.specs.History.{Opened, Published, Sealed, Dropped, Asked, info_of};
-    ghost use Rattle.node_key.specs.History.{published_of};
-    ghost use Rattle.node_key.specs.History.{is_open, published_count, tracks_of, opened_ids};
+    ghost use Rattle.hall_history.specs.History.{Opened, Published, Sealed, Dropped, Asked, info_of};
+    ghost use Rattle.hall_history.specs.History.{published_of};
+    ghost use Rattle.hall_history.specs.History.{is_open, published_count, tracks_of, opened_ids};
     ghost use Rattle.plain_hall.specs.FoundHistory.{entries, HasSpaceFor};
     ghost use Rattle.plain_hall.specs.Orderly.{IsOrderly};
     ghost use Rattle.plain_hall.specs.Spots.{all_published, roots_at, spot_of};

@@ -9,13 +9,14 @@ use crate::found_history::FoundHistory;
 use crate::kept_pin::KeptPin;
 use crate::root::Root;
 use crate::spots::TrackSpot;
+use hall_history::{AskIds, Brief, Left, PassState};
 use hall_trait::{AskAnswer, Hall, HallFault, LoadPass, Pin, Published};
-use node_key::{Left, NodeKey};
+use node_key::NodeKey;
 use node_store::NodeStore;
 use shard_core::{Interned, ShardFault};
 use std::alloc::Global;
 use std::sync::{Arc, Wait};
-use trace_base::{AskIds, Brief, MAX_OPEN_TRACES, MAX_PLACES, Memory, PassState, TraceInfo};
+use trace_base::{MAX_OPEN_TRACES, MAX_PLACES, Memory, TraceInfo};
 
 /// A hall of plain lists with one owner. It stores its history, in which each track has the number of its
 /// root, and the nodes of the open traces, equal subtrees once. Each entry but a question is kept in memory
@@ -45,9 +46,9 @@ impl PlainHall {
     ghost use Rattle.trace_base.specs.declared.limits.TheConstants.{MAX_OPEN_TRACES};
     ghost use Rattle.node_key.specs.declared.limits.TheConstants.{MAX_NUMBERS};
     ghost use Rattle.hall_trait.specs.Answers.{Admits, HasRoom, places_of_load, places_taken};
-    ghost use Rattle.node_key.specs.History.{Asked, is_open, next_id, tracks_of};
-    ghost use Rattle.node_key.specs.Left.{left_of};
-    ghost use Rattle.node_key.specs.Seat.{MakesEntry};
+    ghost use Rattle.hall_history.specs.History.{Asked, is_open, next_id, tracks_of};
+    ghost use Rattle.hall_history.specs.Left.{left_of};
+    ghost use Rattle.hall_history.specs.Seat.{MakesEntry};
     ghost use Rattle.store_laws.specs.Store.{empty_store};
     ghost use Rattle.plain_hall.specs.Loading.{passes_of};
     ghost use Rattle.plain_hall.specs.PlainHall.{seat_of, seen_by};

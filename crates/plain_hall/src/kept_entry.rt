@@ -1,7 +1,7 @@
 ghost use Rattle.std.specs.Prelude.{◌≡◌};
 ghost use Rattle.std.specs.Arc.{arc_value};
 ghost use Rattle.std.specs.Option.{option_copied, option_map};
-ghost use Rattle.node_key.specs.History.{ends, info_opened};
+ghost use Rattle.hall_history.specs.History.{ends, info_opened};
 ghost use Rattle.plain_hall.specs.Kept.{entry_of};
 
 use crate::root::Root;

@@ -23,7 +23,7 @@ impl KeptHistory {
     ghost use Rattle.std.specs.Option.{option_copied, option_map};
     ghost use Rattle.std.specs.Vec.{vec_len};
     ghost use Rattle.trace_base.specs.declared.limits.TheConstants.{MAX_PLACES};
-    ghost use Rattle.node_key.specs.History.{Asked, info_opened};
+    ghost use Rattle.hall_history.specs.History.{Asked, info_opened};
     ghost use Rattle.plain_hall.specs.Kept.{entry_of};
     ghost use Rattle.plain_hall.specs.KeptHistory.{history, HasSpace};
     ghost use Rattle.plain_hall.specs.Spots.{told_at};

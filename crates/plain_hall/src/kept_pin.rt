@@ -1,4 +1,4 @@
-use trace_base::AskIds;
+use hall_history::AskIds;
 
 /// What a plain hall keeps of a pin.
 #[derive(Clone, Copy)]

@@ -13,6 +13,3 @@ mod root;
 mod spots;
 
 pub use hall::PlainHall;
-
-#[cfg(test)]
-mod tests;

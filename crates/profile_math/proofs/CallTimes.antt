@@ -1,5 +1,5 @@
 -- Times and calls of the stream of one call, by those of the stream that it encloses.
-use Rattle.std.proofs.Common.{◌≡◌, ◌≢◌, ℕ, ◌+◌, ◌-◌, ◌<◌, ◌≤◌, ◌==◌, zero, suc, Bool, true, false, cond, ◌&&◌}
+use Rattle.std.proofs.Common.{◌≡◌, ◌≢◌, ℕ, ◌+◌, ◌-◌, ◌<◌, ◌≤◌, ◌==◌, zero, suc, Bool, cond, ◌&&◌}
 use Rattle.std.proofs.Common.{List}
 use Rattle.std.proofs.Common.{[], ◌∷◌, ◌++◌, length, take, get_or, map, fold, sum_by, min}
 use Rattle.std.proofs.Common.{max, refl, ap}
@@ -9,24 +9,21 @@ use Rattle.std.specs.List.{range_with_len}
 use Rattle.std.proofs.lemmas.List.{map-append, take-append-le, get_or_append_left, get_or_at, length-map}
 use Rattle.std.proofs.lemmas.List.Sums.{sum_by-cons, sum_by-append, fold_more}
 use Rattle.std.proofs.lemmas.Option.{slice_get-get_or}
-use Rattle.trace_base.proofs.Ranges.{range_with_len-more}
+use Rattle.list_lemmas.proofs.Booleans.{cond_zero}
+use Rattle.list_lemmas.proofs.Numbers.{no_clip}
+use Rattle.list_lemmas.proofs.Ranges.{range_sum-next, range_sum-same, range_with_len-more}
+use Rattle.list_lemmas.proofs.Sums.{sum_by-filter, sum_by-map}
 use Rattle.trace_base.specs.Flat.{clip, enters_in, time_with, calls_in, is_within}
 use Rattle.trace_base.specs.Stream.{piece, pieces, moments, time_of, stack_step, stack_after, IsLegal}
 use Rattle.trace_base.specs.declared.stream.Event.{Event}
 use Rattle.trace_base.specs.declared.stream.Event.TheVariants.{Enter, Leave}
 use Rattle.trace_base.specs.declared.stream.TrackStream.{TrackStream}
+use Rattle.trace_base.proofs.Moments.{length-moments}
 use Rattle.profile_math.specs.Laws.{call_of}
-use Rattle.profile_math.proofs.Times.{sum_by-filter}
 
 -- what the i-th piece has of the interval, where the call stack has the property
 unfoldable pub part : (List ℕ → Bool) → ℕ → ℕ → TrackStream → ℕ → ℕ
 part has a b s i = cond (has (stack_after (take i s.events))) (clip a b (piece s i)) 0
-
-pub sum_by-map : {X Y : Type 0} (f : Y → ℕ) (g : X → Y) (xs : List X)
-    → sum_by f (map g xs) ≡ sum_by (λ x. f (g x)) xs
-sum_by-map f g [] = refl
-sum_by-map f g (x ∷ xs) = sum_by-cons f (g x) (map g xs) ∙ ap (λ n. f (g x) + n) (sum_by-map f g xs)
-    ∙ sym (sum_by-cons (λ y. f (g y)) x xs)
 
 pub time-parts : (has : List ℕ → Bool) (a b : ℕ) (s : TrackStream)
     → time_with has a b s ≡ sum_by (part has a b s)
@@ -35,25 +32,6 @@ unfolding time_with pieces part
 time-parts has a b s = sum_by-filter (clip a b) (λ p. has p.stack)
     (map (piece s) (range_with_len 0 (length s.events + 1)))
     ∙ sum_by-map (λ p. cond (has p.stack) (clip a b p) 0) (piece s) (range_with_len 0 (length s.events + 1))
-
--- sums over ranges of numbers
-pub range-same : (f g : ℕ → ℕ) (a n : ℕ) → ((i : ℕ) → a ≤ i → i < a + n → f i ≡ g i)
-    → sum_by f (range_with_len a n) ≡ sum_by g (range_with_len a n)
-range-same f g a zero h = refl
-range-same f g a (suc n) h = sum_by-cons f a (range_with_len (a + 1) n)
-    ∙ omega (
-      arith,
-      h a (omega arith) (omega arith),
-      range-same f g (a + 1) n (λ i l m. h i (omega arith) (omega arith)),
-    )
-    ∙ sym (sum_by-cons g a (range_with_len (a + 1) n))
-
-pub range-next : (f : ℕ → ℕ) (a n : ℕ) → sum_by f (range_with_len (a + 1) n) ≡ sum_by (λ i. f (i + 1))
-    (range_with_len a n)
-range-next f a zero = refl
-range-next f a (suc n) = sum_by-cons f (a + 1) (range_with_len (a + 1 + 1) n)
-    ∙ ap (λ m. f (a + 1) + m) (range-next f (a + 1) n)
-    ∙ sym (sum_by-cons (λ i. f (i + 1)) a (range_with_len (a + 1) n))
 
 -- the call stack under a call, where no call that was open before is closed
 step-under : (f : ℕ) (q : List ℕ) (e : Event) → ((t : ℕ) → e ≡ Leave t → q ≢ []) → stack_step (f ∷ q) e ≡ f
@@ -93,13 +71,6 @@ moments-call : (f : ℕ) (s : TrackStream) → moments (call_of f s) ≡ s.start
 moments-call f s = ap (λ us. s.start ∷ s.start ∷ (us ++ s.end ∷ []))
     (map-append time_of s.events (Leave s.end ∷ []))
 
-length-moments : (s : TrackStream) → length (moments s) ≡ length s.events + 2
-length-moments s = omega (
-  arith,
-  length-append (map time_of s.events) (s.end ∷ []),
-  length-map s.events time_of,
-)
-
 moment-call : (f : ℕ) (s : TrackStream) (i : ℕ) → i < length s.events + 2
     → get_or (moments (call_of f s)) (i + 1) 0
     ≡ get_or (moments s) i 0
@@ -116,13 +87,6 @@ moment-end : (s : TrackStream) → get_or (moments s) (length s.events + 1) 0 �
 moment-end s = ap (λ n. get_or (moments s) n 0) (add-one (length s.events))
     ∙ get_or_at (map time_of s.events) s.end [] 0 (length s.events) (length-map s.events time_of)
 
-no-clip : (x y a b : ℕ) → x ≡ y → min y b - max x a ≡ 0
-no-clip x y a b e = omega arith
-
-cond-zero : (t : Bool) (n : ℕ) → n ≡ 0 → cond t n 0 ≡ 0
-cond-zero true n e = e
-cond-zero false n e = refl
-
 -- the time in the call is the time in the stream with the call under it
 pub time-call : (has : List ℕ → Bool) (f a b : ℕ) (s : TrackStream) → IsLegal s
     → time_with has a b (call_of f s) ≡ time_with (λ q. has (f ∷ q)) a b s
@@ -132,11 +96,11 @@ time-call has f a b s legal =
     let g : ℕ → ℕ = part has a b (call_of f s) in
     let long : length ((call_of f s).events) + 1 ≡ suc (suc n + 1) =
     omega (arith, length-append s.events (Leave s.end ∷ [])) in
-    let first : g 0 ≡ 0 = cond-zero (has (stack_after [])) (clip a b (piece (call_of f s) 0))
-    (no-clip s.start s.start a b refl) in
-    let last : g (suc n + 1) ≡ 0 = cond-zero (has (stack_after (take (suc n + 1) ((call_of f s).events))))
+    let first : g 0 ≡ 0 = cond_zero (has (stack_after [])) (clip a b (piece (call_of f s) 0))
+    (no_clip s.start s.start a b refl) in
+    let last : g (suc n + 1) ≡ 0 = cond_zero (has (stack_after (take (suc n + 1) ((call_of f s).events))))
     (clip a b (piece (call_of f s) (suc n + 1)))
-    (no-clip (get_or (moments (call_of f s)) (suc n + 1) 0) (get_or (moments (call_of f s)) (suc n + 1 + 1) 0)
+    (no_clip (get_or (moments (call_of f s)) (suc n + 1) 0) (get_or (moments (call_of f s)) (suc n + 1 + 1) 0)
     a b
     (moment-call f s (suc n) (omega arith) ∙ ap (λ m. get_or (moments s) m 0) (sym (add-one n)) ∙ moment-end s
     ∙ sym (ap (λ m. get_or (moments (call_of f s)) (m + 1) 0) two ∙ moment-past f s))) in
@@ -149,8 +113,9 @@ time-call has f a b s legal =
     ∙ sum_by-append g (range_with_len (0 + 1) (suc n)) ((suc n + 1) ∷ [])
     ∙ ap (λ m. sum_by g (range_with_len (0 + 1) (suc n)) + m) (zero-add (g (suc n + 1)) ∙ last)
     ∙ add-zero (sum_by g (range_with_len (0 + 1) (suc n)))
-    ∙ range-next g 0 (suc n)
-    ∙ range-same (λ i. g (i + 1)) (part (λ q. has (f ∷ q)) a b s) 0 (suc n) (λ i l m. each i (omega arith))
+    ∙ range_sum-next g 0 (suc n)
+    ∙ range_sum-same (λ i. g (i + 1)) (part (λ q. has (f ∷ q)) a b s) 0 (suc n) (λ i l m. each i (omega
+    arith))
     ∙ ap (λ m. sum_by (part (λ q. has (f ∷ q)) a b s) (range_with_len 0 m)) (sym (add-one n))
     ∙ sym (time-parts (λ q. has (f ∷ q)) a b s)
   where

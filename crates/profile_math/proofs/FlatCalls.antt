@@ -7,12 +7,14 @@ use Rattle.std.proofs.Common.{arith, zero-add, add-zero, append-nil, eq-eqb}
 use Rattle.std.specs.List.{AllByRecursion, list_any}
 use Rattle.std.specs.Ordering.{nat_cmp, is_eq}
 use Rattle.std.specs.declared.cmp.Ordering.TheVariants.{Less}
-use Rattle.std.specs.Cmp.{unsigned_ties, nat_cmp_is}
+use Rattle.std.specs.Cmp.{unsigned_ties}
 use Rattle.std.proofs.lemmas.Bool.{cases_Bool, cases_eq, cases_lt, cond-true, cond-false, lt-ltb, le-ltb}
 use Rattle.std.proofs.lemmas.Bool.{ltb-true}
 use Rattle.std.proofs.lemmas.Bool.{ne_eqb, eqb-true}
 use Rattle.std.proofs.lemmas.List.Sums.{sum_by-append}
-use Rattle.trace_base.proofs.Order.{all_mapped}
+use Rattle.list_lemmas.proofs.Each.{all_append, all_mapped, all_passed}
+use Rattle.list_lemmas.proofs.Filters.{filter_filter_none, filter_filter_same}
+use Rattle.list_lemmas.proofs.Numbers.{Less-from_ltb}
 use Rattle.trace_base.specs.Flat.{stands, is_bare, is_open_in, is_innermost_in, is_within, time_with}
 use Rattle.trace_base.specs.Flat.{calls_in, row_of}
 use Rattle.trace_base.specs.Flat.{greatest_function, flat}
@@ -30,8 +32,7 @@ use Rattle.profile_math.proofs.FlatRows.{standing-climbs}
 use Rattle.profile_math.proofs.FlatRows.{at-any, at-append, IsWithin, stands-from, stands-into, stands-not}
 use Rattle.profile_math.proofs.FlatRows.{no-stands}
 use Rattle.profile_math.proofs.FlatRows.{empty-row, kept-yes, kept-no}
-use Rattle.profile_math.proofs.Keyed.{at, Climbs, one_list, climbs-filter, climbs-append, all_passed}
-use Rattle.profile_math.proofs.Keyed.{filter_filter_same, filter_filter_none}
+use Rattle.profile_math.proofs.Keyed.{at, Climbs, one_list, climbs-filter, climbs-append}
 use Rattle.profile_math.proofs.RowSums.{func_of, rows_for-at, row_totals}
 use Rattle.profile_math.proofs.Shares.{time-split, time-same, all-time, own_time, own_time-zero, own_time-suc}
 use Rattle.profile_math.proofs.Shares.{innermost-is, last-under}
@@ -110,9 +111,6 @@ closed-at-own xs call =
     ∙ append-nil (at nat_cmp func_of f (own_rows xs call))
     ∙ own-same f (list_any (λ r. r.func == f) xs || stands call) (closed_row xs call) refl
 
-less_is : (a b : ℕ) → nat_lt a b ≡ true → nat_cmp a b ≡ Less
-less_is a b h = sym (nat_cmp_is a b Less (ltb-true a b h))
-
 all_cond : (P : Row → Type 0) (b : Bool) (r : Row) → P r → AllByRecursion P (cond b (r ∷ []) [])
 all_cond P true r h = (h, tt)
 all_cond P false r h = tt
@@ -120,11 +118,6 @@ all_cond P false r h = tt
 climbs_cond : (b : Bool) (r : Row) → Climbs nat_cmp func_of (cond b (r ∷ []) [])
 climbs_cond true r = (tt, tt)
 climbs_cond false r = tt
-
-all_append : (P : Row → Type 0) (xs ys : List Row) → AllByRecursion P xs → AllByRecursion P ys
-    → AllByRecursion P (xs ++ ys)
-all_append P [] ys h g = g
-all_append P (x ∷ xs) ys h g = (h.0, all_append P xs ys h.1 g)
 
 closed-climbs : (xs : List Row) (call : Row) → Climbs nat_cmp func_of xs
     → Climbs nat_cmp func_of (closed_rows xs call)
@@ -142,13 +135,13 @@ closed-climbs xs call h =
     (climbs-filter nat_cmp func_of (λ r. nat_lt f r.func) xs h)
     (all_cond (λ (r : Row). AllByRecursion (λ s. nat_cmp r.func s.func ≡ Less) back) b (closed_row xs call)
     (all_mapped (λ (s : Row). nat_lt f s.func ≡ true) (λ s. nat_cmp f s.func ≡ Less)
-    (λ s e. less_is f s.func e)
+    (λ s e. Less-from_ltb f s.func e)
     back above)))
     (all_mapped (λ (r : Row). nat_lt r.func f ≡ true) (λ r. AllByRecursion (λ s. nat_cmp r.func s.func ≡ Less)
     (own ++ back)) (λ r e. all_append (λ s. nat_cmp r.func s.func ≡ Less) own back
-    (all_cond (λ (s : Row). nat_cmp r.func s.func ≡ Less) b (closed_row xs call) (less_is r.func f e))
+    (all_cond (λ (s : Row). nat_cmp r.func s.func ≡ Less) b (closed_row xs call) (Less-from_ltb r.func f e))
     (all_mapped (λ (s : Row). nat_lt f s.func ≡ true) (λ s. nat_cmp r.func s.func ≡ Less)
-    (λ s g. less_is r.func s.func (lt-ltb r.func s.func
+    (λ s g. Less-from_ltb r.func s.func (lt-ltb r.func s.func
     (omega (arith, ltb-true r.func f e, ltb-true f s.func g))))
     back above)) front (all_passed (λ r. nat_lt r.func f) xs))
 

@@ -2,6 +2,8 @@
 use Rattle.std.proofs.Common.{◌≡◌, ℕ, ◌+◌, ◌<◌, ◌≤◌, false, List, ◌++◌, sum_by, refl, ap, sym}
 use Rattle.std.proofs.Common.{◌∙◌, arith}
 use Rattle.std.proofs.lemmas.List.Sums.{sum_by-append}
+use Rattle.std.proofs.lemmas.List.Sums.{sum_by-le-sum_by}
+use Rattle.list_lemmas.proofs.Sums.{sum_by-plus}
 use Rattle.trace_base.specs.Flat.{stands, is_bare, is_open_in, is_innermost_in, time_with, calls_in, row_of}
 use Rattle.trace_base.specs.Flat.{greatest_function, flat}
 use Rattle.trace_base.specs.declared.profile.Profile.{Profile}
@@ -10,9 +12,9 @@ use Rattle.trace_base.specs.declared.stream.TrackStream.{TrackStream}
 use Rattle.profile_math.specs.Sum.{row_plus, sum_of, by_function, RisesByFunction}
 use Rattle.profile_math.proofs.FlatRows.{standing, standing-is, standing-rises, standing-sum, IsWithin}
 use Rattle.profile_math.proofs.FlatRows.{no-stands}
-use Rattle.profile_math.proofs.Times.{sum_by-plus, time-plus, calls-plus, time-le, past-calls, past-time}
+use Rattle.profile_math.proofs.Times.{time-plus, calls-plus, time-le, past-calls, past-time}
 use Rattle.profile_math.proofs.Times.{innermost-open}
-use Rattle.profile_math.proofs.Times.{sum-le, greatest-append}
+use Rattle.profile_math.proofs.Times.{greatest-append}
 
 pub flat-rows : (ss : List TrackStream) (a b : ℕ) → (flat ss a b).rows ≡ standing (row_of ss a b)
     (greatest_function ss)
@@ -29,8 +31,8 @@ row-func ss a b k = refl
 
 pub row-within : (ss : List TrackStream) (a b k : ℕ) → IsWithin (row_of ss a b k)
 unfolding row_of
-row-within ss a b k = sum-le (time_with (is_innermost_in k) a b) (time_with (is_open_in k) a b)
-    (time-le (is_innermost_in k) (is_open_in k) (innermost-open k) a b) ss
+row-within ss a b k = sum_by-le-sum_by (time_with (is_innermost_in k) a b) (time_with (is_open_in k) a b) ss
+    (time-le (is_innermost_in k) (is_open_in k) (innermost-open k) a b)
 
 pub row-past : (ss : List TrackStream) (a b k : ℕ) → greatest_function ss < k
     → stands (row_of ss a b k) ≡ false

@@ -5,17 +5,18 @@ use Rattle.std.proofs.Common.{List, [], ◌∷◌}
 use Rattle.std.proofs.Common.{◌++◌, map, filter, nat_lt, refl, ap, sym, subst, ◌∙◌, ◌⊎◌, inl, inr, arith}
 use Rattle.std.proofs.Common.{zero-add}
 use Rattle.std.proofs.Common.{add-zero, add-one, append-nil}
-use Rattle.std.specs.Cmp.{nat_cmp_is}
 use Rattle.std.specs.List.{AllByRecursion, range_with_len}
 use Rattle.std.specs.Ordering.{nat_cmp, is_eq}
 use Rattle.std.specs.declared.cmp.Ordering.TheVariants.{Less}
 use Rattle.std.specs.Cmp.{unsigned_ties}
 use Rattle.std.proofs.lemmas.Bool.{cases_Bool, cases_eq, cases_lt, cond-true, cond-false, lt-ltb, le-ltb}
 use Rattle.std.proofs.lemmas.Bool.{ltb-true}
-use Rattle.std.proofs.lemmas.Bool.{ltb-false, ne_eqb, eq-eqb, true≢false, cond_both}
+use Rattle.std.proofs.lemmas.Bool.{ltb-false, ne_eqb, eq-eqb, cond_both}
 use Rattle.std.proofs.lemmas.List.Elements.{filter-append}
 use Rattle.std.proofs.lemmas.List.FromFn.{filter_of_map_range_with_len_more}
-use Rattle.trace_base.proofs.Order.{all_mapped}
+use Rattle.std.proofs.lemmas.Bool.{or_cases, or_left, or_parts, or_right}
+use Rattle.list_lemmas.proofs.Each.{all_append, all_mapped}
+use Rattle.list_lemmas.proofs.Numbers.{Less-from_lt}
 use Rattle.trace_base.specs.Flat.{stands}
 use Rattle.trace_base.specs.declared.profile.Row.{Row}
 use Rattle.profile_math.specs.Sum.{row_total, row_plus, by_function, RisesByFunction}
@@ -94,19 +95,11 @@ standing-in row own (suc n) f h l =
           ∙ append-nil (kept (row f))
     ]
 
-less_is : (a b : ℕ) → a < b → nat_cmp a b ≡ Less
-less_is a b h = sym (nat_cmp_is a b Less h)
-
 all_kept : (P : Row → Type 0) (r : Row) → P r → AllByRecursion P (kept r)
 all_kept P r h = cond_both (stands r) (r ∷ []) [] (AllByRecursion P) (λ e. (h, tt)) (λ e. tt)
 
 climbs_kept : (r : Row) → Climbs nat_cmp func_of (kept r)
 climbs_kept r = cond_both (stands r) (r ∷ []) [] (Climbs nat_cmp func_of) (λ e. (tt, tt)) (λ e. tt)
-
-all_append : (P : Row → Type 0) (xs ys : List Row) → AllByRecursion P xs → AllByRecursion P ys
-    → AllByRecursion P (xs ++ ys)
-all_append P [] ys h g = g
-all_append P (x ∷ xs) ys h g = (h.0, all_append P xs ys h.1 g)
 
 climbing : (row : ℕ → Row) → ((k : ℕ) → (row k).func ≡ k) → (n : ℕ) → Climbs nat_cmp func_of (standing row n)
     × AllByRecursion (λ r. r.func ≤ n) (standing row n)
@@ -120,7 +113,7 @@ climbing row own (suc n) =
           (all_mapped (λ (r : Row). r.func ≤ n) (λ r. AllByRecursion (λ s. nat_cmp r.func s.func ≡ Less)
           (kept (row (n + 1))))
           (λ r l. all_kept (λ s. nat_cmp r.func s.func ≡ Less) (row (n + 1))
-          (less_is r.func (row (n + 1)).func (omega arith))) (standing row n) before.1)),
+          (Less-from_lt r.func (row (n + 1)).func (omega arith))) (standing row n) before.1)),
       subst (AllByRecursion (λ (r : Row). r.func ≤ suc n)) (sym (standing-suc row n))
           (all_append (λ r. r.func ≤ suc n) (standing row n) (kept (row (n + 1)))
           (all_mapped (λ (r : Row). r.func ≤ n) (λ r. r.func ≤ suc n) (λ r l. omega arith) (standing row n)
@@ -140,39 +133,24 @@ standing-rises row own n = sorted-from nat_cmp func_of (standing row n) (standin
 abbrev pub no_row : ℕ → Row
 no_row f = record { func = f; calls = 0; incl = 0; excl = 0 }
 
-pub or-left : (a b : Bool) → a ≡ true → (a || b) ≡ true
-or-left a b e = ap (λ c. c || b) e
-
-pub or-right : (a b : Bool) → b ≡ true → (a || b) ≡ true
-or-right true b e = refl
-or-right false b e = e
-
-pub or-cases : (a b : Bool) → (a || b) ≡ true → (a ≡ true) ⊎ (b ≡ true)
-or-cases true b e = inl refl
-or-cases false b e = inr e
-
-pub or-none : (a b : Bool) → (a || b) ≡ false → (a ≡ false) × (b ≡ false)
-or-none true b e = absurd (true≢false e)
-or-none false b e = (refl, e)
-
 -- a row stands where it has a call or time
 pub stands-from : (r : Row) → (0 < r.calls) ⊎ (0 < r.incl) → stands r ≡ true
 stands-from r h =
     elim h [
-      | inl l ↦ or-left (nat_lt 0 r.calls) (nat_lt 0 r.incl) (lt-ltb 0 r.calls l)
-      | inr l ↦ or-right (nat_lt 0 r.calls) (nat_lt 0 r.incl) (lt-ltb 0 r.incl l)
+      | inl l ↦ or_left (nat_lt 0 r.calls) (nat_lt 0 r.incl) (lt-ltb 0 r.calls l)
+      | inr l ↦ or_right (nat_lt 0 r.calls) (nat_lt 0 r.incl) (lt-ltb 0 r.incl l)
     ]
 
 pub stands-into : (r : Row) → stands r ≡ true → (0 < r.calls) ⊎ (0 < r.incl)
 stands-into r e =
-    elim (or-cases (nat_lt 0 r.calls) (nat_lt 0 r.incl) e) [
+    elim (or_cases (nat_lt 0 r.calls) (nat_lt 0 r.incl) e) [
       | inl l ↦ inl (ltb-true 0 r.calls l)
       | inr l ↦ inr (ltb-true 0 r.incl l)
     ]
 
 pub stands-not : (r : Row) → stands r ≡ false → (r.calls ≡ 0) × (r.incl ≡ 0)
 stands-not r e =
-    let none = or-none (nat_lt 0 r.calls) (nat_lt 0 r.incl) e in
+    let none = or_parts (nat_lt 0 r.calls) (nat_lt 0 r.incl) e in
     (omega (arith, ltb-false 0 r.calls none.0), omega (arith, ltb-false 0 r.incl none.1))
 
 pub no-stands : (r : Row) → r.calls ≡ 0 → r.incl ≡ 0 → stands r ≡ false

@@ -1,20 +1,23 @@
 -- Items in the order of their keys: at each key those that have it, and what they are together. A list in
 -- order is fixed by what it has at each key; two lists merged have at each key what both have there.
-use Rattle.std.proofs.Common.{◌≡◌, Bool, true, false, cond, not, ◌&&◌, List, [], ◌∷◌, ◌++◌, map, filter}
+use Rattle.std.proofs.Common.{◌≡◌, Bool, true, false, List, [], ◌∷◌, ◌++◌, map, filter}
 use Rattle.std.proofs.Common.{refl, ap}
-use Rattle.std.proofs.Common.{sym, subst, ◌∙◌, ◌⊎◌, inl, inr, append-nil}
+use Rattle.std.proofs.Common.{sym, subst, ◌∙◌, inl, inr, append-nil}
 use Rattle.std.specs.Cmp.{IsTotalOrder}
 use Rattle.std.specs.List.{AllByRecursion}
 use Rattle.std.specs.List.Sorted.{IsStrictlySortedBy, ties}
-use Rattle.std.specs.Ordering.{is_lt, is_eq, ordering_reverse}
+use Rattle.std.specs.Ordering.{is_lt, is_eq}
 use Rattle.std.specs.declared.cmp.Ordering.{Ordering}
 use Rattle.std.specs.declared.cmp.Ordering.TheVariants.{Less, Equal, Greater}
-use Rattle.std.proofs.lemmas.Bool.{cases_Bool, cond-true, cond-false, cond_both, false_from_ne_true}
-use Rattle.std.proofs.lemmas.Bool.{true≢false}
+use Rattle.std.proofs.lemmas.Bool.{cases_Bool, cond-true, cond-false, cond_both}
 use Rattle.std.proofs.lemmas.Cmp.{tied_back, alike_right}
 use Rattle.std.proofs.lemmas.List.Elements.{filter_agree, filter-append}
 use Rattle.std.proofs.lemmas.List.Sorted.{ranks_by}
-use Rattle.trace_base.proofs.Order.{Rises, all_mapped, all_filter, filter_none, one_in_order}
+use Rattle.list_lemmas.proofs.Each.{all_append, all_filter, all_map, all_mapped, all_passed, all_unmap}
+use Rattle.list_lemmas.proofs.Filters.{filter-map, filter_filter_none, filter_filter_same, filter_none}
+use Rattle.list_lemmas.proofs.Orderings.{Equal-from_is_eq, Less-from_is_lt, not_lt-reverse, ordering_cases}
+use Rattle.list_lemmas.proofs.Orderings.{ties-reverse, turned, turned_back}
+use Rattle.list_lemmas.proofs.Sorting.{Rises, one_in_order}
 use Rattle.profile_math.specs.InOrder.{put_in_order, in_order}
 use Rattle.profile_math.specs.Merging.{pick, merged}
 
@@ -36,27 +39,12 @@ abbrev pub Climbs : {K X : Type 0} → (K → K → Ordering) → (X → K) → 
 Climbs cmp key [] = Unit {0}
 Climbs cmp key (x ∷ xs) = AllByRecursion (λ y. cmp (key x) (key y) ≡ Less) xs × Climbs cmp key xs
 
-pub ordering_cases : (o : Ordering) → (o ≡ Less) ⊎ ((o ≡ Equal) ⊎ (o ≡ Greater))
-ordering_cases Less = inl refl
-ordering_cases Equal = inr (inl refl)
-ordering_cases Greater = inr (inr refl)
-
-all_unmapped : {K X : Type 0} (P : K → Type 0) (key : X → K) (xs : List X) → AllByRecursion P (map key xs)
-    → AllByRecursion (λ x. P (key x)) xs
-all_unmapped P key [] h = tt
-all_unmapped P key (x ∷ xs) h = (h.0, all_unmapped P key xs h.1)
-
-all_keys : {K X : Type 0} (P : K → Type 0) (key : X → K) (xs : List X) → AllByRecursion (λ x. P (key x)) xs
-    → AllByRecursion P (map key xs)
-all_keys P key [] h = tt
-all_keys P key (x ∷ xs) h = (h.0, all_keys P key xs h.1)
-
 pub climbs-from : {K X : Type 0} (cmp : K → K → Ordering) (key : X → K) (xs : List X)
     → IsStrictlySortedBy cmp (map key xs) → Climbs cmp key xs
 unfolding IsStrictlySortedBy
 climbs-from cmp key [] h = tt
 climbs-from cmp key (x ∷ xs) h = (
-  all_unmapped (λ k. cmp (key x) k ≡ Less) key xs h.0,
+  all_unmap (λ k. cmp (key x) k ≡ Less) key xs h.0,
   climbs-from cmp key xs h.1,
 )
 
@@ -70,20 +58,7 @@ pub sorted-from : {K X : Type 0} (cmp : K → K → Ordering) (key : X → K) (x
     → IsStrictlySortedBy cmp (map key xs)
 unfolding IsStrictlySortedBy
 sorted-from cmp key [] h = tt
-sorted-from cmp key (x ∷ xs) h = (all_keys (λ k. cmp (key x) k ≡ Less) key xs h.0, sorted-from cmp key xs h.1)
-
-pub turned : {K : Type 0} (cmp : K → K → Ordering) → IsTotalOrder cmp → (j k : K) → cmp j k ≡ Less
-    → cmp k j ≡ Greater
-turned cmp o j k e = o.antisymm k j ∙ ap ordering_reverse e
-
-pub turned_back : {K : Type 0} (cmp : K → K → Ordering) → IsTotalOrder cmp → (j k : K) → cmp j k ≡ Greater
-    → cmp k j ≡ Less
-turned_back cmp o j k e = o.antisymm k j ∙ ap ordering_reverse e
-
-pub equal-from : (o : Ordering) → is_eq o ≡ true → o ≡ Equal
-equal-from Less e = cc
-equal-from Equal e = refl
-equal-from Greater e = cc
+sorted-from cmp key (x ∷ xs) h = (all_map (λ k. cmp (key x) k ≡ Less) key xs h.0, sorted-from cmp key xs h.1)
 
 -- what stands before the first of items in order stands before all of them
 pub all_above : {K X : Type 0} (cmp : K → K → Ordering) → IsTotalOrder cmp
@@ -116,22 +91,14 @@ pub at-no : {K X : Type 0} (cmp : K → K → Ordering) (key : X → K) (k : K) 
     → is_eq (cmp (key x) k) ≡ false → at cmp key k (x ∷ xs) ≡ at cmp key k xs
 at-no cmp key k x xs e = cond-false (is_eq (cmp (key x) k)) (x ∷ at cmp key k xs) (at cmp key k xs) e
 
--- what the test of two ties says
-ties-is : (o p : Ordering) → o ≡ ordering_reverse p → not (is_lt o) && not (is_lt p) ≡ is_eq p
-ties-is o Less e = ap (λ q. not (is_lt q) && not (is_lt Less)) e
-ties-is o Equal e = ap (λ q. not (is_lt q) && not (is_lt Equal)) e
-ties-is o Greater e = ap (λ q. not (is_lt q) && not (is_lt Greater)) e
-
-not_above : (o p : Ordering) → o ≡ ordering_reverse p → p ≡ Less → is_lt o ≡ false
-not_above o p e h = ap is_lt (e ∙ ap ordering_reverse h)
-
 climbs-rises : {K X : Type 0} (cmp : K → K → Ordering) → IsTotalOrder cmp → (key : X → K) (xs : List X)
     → Climbs cmp key xs → Rises (λ x y. is_lt (cmp (key x) (key y))) xs
 climbs-rises cmp o key [] h = tt
 climbs-rises cmp o key (x ∷ xs) h = (
   all_mapped (λ y. cmp (key x) (key y) ≡ Less)
       (λ y. is_lt (cmp (key y) (key x)) ≡ false)
-      (λ y l. not_above (cmp (key y) (key x)) (cmp (key x) (key y)) (o.antisymm (key y) (key x)) l) xs h.0,
+      (λ y l. not_lt-reverse (cmp (key y) (key x)) (cmp (key x) (key y)) (o.antisymm (key y) (key x)) l) xs
+      h.0,
   climbs-rises cmp o key xs h.1,
 )
 
@@ -142,24 +109,9 @@ one_list {K} {X} cmp o key xs ys h g same =
     let lt : X → X → Bool = λ x y. is_lt (cmp (key x) (key y)) in
     let agree : (x : X) (zs : List X) → filter (ties lt x) zs ≡ at cmp key (key x) zs =
     λ (x : X) (zs : List X). filter_agree (ties lt x) (λ y. is_eq (cmp (key y) (key x)))
-    (λ y. ties-is (cmp (key x) (key y)) (cmp (key y) (key x)) (o.antisymm (key x) (key y))) zs in
+    (λ y. ties-reverse (cmp (key x) (key y)) (cmp (key y) (key x)) (o.antisymm (key x) (key y))) zs in
     one_in_order lt (ranks_by o key) xs ys (climbs-rises cmp o key xs h) (climbs-rises cmp o key ys g)
     (λ x. agree x xs ∙ same (key x) ∙ sym (agree x ys))
-
-less-from : (o : Ordering) → is_lt o ≡ true → o ≡ Less
-less-from Less e = refl
-less-from Equal e = cc
-less-from Greater e = cc
-
-pub all_passed : {X : Type 0} (p : X → Bool) (xs : List X) → AllByRecursion (λ x. p x ≡ true) (filter p xs)
-all_passed p [] = tt
-all_passed p (x ∷ xs) = cond_both (p x) (x ∷ filter p xs) (filter p xs) (AllByRecursion (λ y. p y ≡ true))
-    (λ e. (e, all_passed p xs)) (λ e. all_passed p xs)
-
-all_append : {X : Type 0} (P : X → Type 0) (xs ys : List X) → AllByRecursion P xs → AllByRecursion P ys
-    → AllByRecursion P (xs ++ ys)
-all_append P [] ys h g = g
-all_append P (x ∷ xs) ys h g = (h.0, all_append P xs ys h.1 g)
 
 pub climbs-filter : {K X : Type 0} (cmp : K → K → Ordering) (key : X → K) (p : X → Bool) (xs : List X)
     → Climbs cmp key xs → Climbs cmp key (filter p xs)
@@ -182,7 +134,7 @@ put-climbs : {K : Type 0} (cmp : K → K → Ordering) → IsTotalOrder cmp → 
     → Climbs cmp (λ j. j) ks → Climbs cmp (λ j. j) (put_in_order cmp k ks)
 put-climbs {K} cmp o k ks h =
     let above : AllByRecursion (λ j. cmp k j ≡ Less) (filter (λ j. is_lt (cmp k j)) ks) =
-    all_mapped (λ j. is_lt (cmp k j) ≡ true) (λ j. cmp k j ≡ Less) (λ j e. less-from (cmp k j) e)
+    all_mapped (λ j. is_lt (cmp k j) ≡ true) (λ j. cmp k j ≡ Less) (λ j e. Less-from_is_lt (cmp k j) e)
     (filter (λ j. is_lt (cmp k j)) ks) (all_passed (λ j. is_lt (cmp k j)) ks) in
     climbs-append cmp (λ j. j) (filter (λ j. is_lt (cmp j k)) ks) (k ∷ filter (λ j. is_lt (cmp k j)) ks)
     (climbs-filter cmp (λ j. j) (λ j. is_lt (cmp j k)) ks h)
@@ -190,9 +142,9 @@ put-climbs {K} cmp o k ks h =
     (all_mapped (λ j. is_lt (cmp j k) ≡ true)
     (λ j. AllByRecursion (λ l. cmp j l ≡ Less) (k ∷ filter (λ l. is_lt (cmp k l)) ks))
     (λ j e. (
-      less-from (cmp j k) e,
+      Less-from_is_lt (cmp j k) e,
       all_mapped (λ l. cmp k l ≡ Less) (λ l. cmp j l ≡ Less)
-          (λ l m. o.trans j k l (less-from (cmp j k) e) m) (filter (λ l. is_lt (cmp k l)) ks) above,
+          (λ l m. o.trans j k l (Less-from_is_lt (cmp j k) e) m) (filter (λ l. is_lt (cmp k l)) ks) above,
     ))
     (filter (λ j. is_lt (cmp j k)) ks) (all_passed (λ j. is_lt (cmp j k)) ks))
 
@@ -201,45 +153,6 @@ pub in_order-climbs : {K : Type 0} (cmp : K → K → Ordering) → IsTotalOrder
 unfolding in_order
 in_order-climbs cmp o [] = tt
 in_order-climbs cmp o (k ∷ ks) = put-climbs cmp o k (in_order cmp ks) (in_order-climbs cmp o ks)
-
-pub filter_filter_same : {X : Type 0} (p q : X → Bool) → ((x : X) → p x ≡ true → q x ≡ true) → (xs : List X)
-    → filter p (filter q xs) ≡ filter p xs
-filter_filter_same p q h [] = refl
-filter_filter_same {X} p q h (x ∷ xs) =
-    let rest : filter p (filter q xs) ≡ filter p xs = filter_filter_same p q h xs in
-    elim (cases_Bool (q x)) [
-      | inl e ↦ ap (filter p) (cond-true (q x) (x ∷ filter q xs) (filter q xs) e)
-          ∙ ap (λ (ys : List X). cond (p x) (x ∷ ys) ys) rest
-      | inr e ↦ ap (filter p) (cond-false (q x) (x ∷ filter q xs) (filter q xs) e) ∙ rest
-          ∙ sym (cond-false (p x) (x ∷ filter p xs) (filter p xs)
-          (false_from_ne_true (p x) (λ k. true≢false (sym (h x k) ∙ e))))
-    ]
-
-pub filter_filter_none : {X : Type 0} (p q : X → Bool) → ((x : X) → p x ≡ true → q x ≡ false) → (xs : List X)
-    → filter p (filter q xs) ≡ []
-filter_filter_none p q h [] = refl
-filter_filter_none p q h (x ∷ xs) =
-    let rest : filter p (filter q xs) ≡ [] = filter_filter_none p q h xs in
-    elim (cases_Bool (q x)) [
-      | inl e ↦ ap (filter p) (cond-true (q x) (x ∷ filter q xs) (filter q xs) e)
-          ∙ cond-false (p x) (x ∷ filter p (filter q xs)) (filter p (filter q xs))
-          (false_from_ne_true (p x) (λ k. true≢false (sym e ∙ h x k))) ∙ rest
-      | inr e ↦ ap (filter p) (cond-false (q x) (x ∷ filter q xs) (filter q xs) e) ∙ rest
-    ]
-
-pub filter-map : {X Y : Type 0} (p : Y → Bool) (f : X → Y) (xs : List X) → filter p (map f xs) ≡ map f
-    (filter (λ x. p (f x)) xs)
-filter-map p f [] = refl
-filter-map {X} {Y} p f (x ∷ xs) =
-    elim (cases_Bool (p (f x))) [
-      | inl e ↦ cond-true (p (f x)) (f x ∷ filter p (map f xs)) (filter p (map f xs)) e
-          ∙ ap (λ (ys : List Y). f x ∷ ys) (filter-map p f xs)
-          ∙ ap (map f) (sym (cond-true (p (f x)) (x ∷ filter (λ z. p (f z)) xs) (filter (λ z. p (f z)) xs) e))
-      | inr e ↦ cond-false (p (f x)) (f x ∷ filter p (map f xs)) (filter p (map f xs)) e
-          ∙ filter-map p f xs
-          ∙ ap (map f) (sym (cond-false (p (f x)) (x ∷ filter (λ z. p (f z)) xs) (filter (λ z. p (f z)) xs)
-          e))
-    ]
 
 -- the key, where any item has it
 hit : {K : Type 0} → K → List K → List K
@@ -263,31 +176,31 @@ in_order-at {K} cmp o one k (l ∷ ls) =
     elim (ordering_cases (cmp l k)) [
       | inl e ↦ front
           ∙ ap (λ (us : List K). us ++ filter eq (l ∷ filter above ks)) (filter_filter_none eq below
-          (λ j h. ap is_lt (o.congr j k l (equal-from (cmp j k) h) ∙ turned cmp o l k e)) ks)
+          (λ j h. ap is_lt (o.congr j k l (Equal-from_is_eq (cmp j k) h) ∙ turned cmp o l k e)) ks)
           ∙ cond-false (eq l) (l ∷ filter eq (filter above ks)) (filter eq (filter above ks)) (ap is_eq e)
           ∙ filter_filter_same eq above
-          (λ j h. ap is_lt (alike_right o j k l (equal-from (cmp j k) h) ∙ e)) ks
+          (λ j h. ap is_lt (alike_right o j k l (Equal-from_is_eq (cmp j k) h) ∙ e)) ks
           ∙ in_order-at cmp o one k ls
           ∙ ap (hit k) (sym (cond-false (eq l) (l ∷ filter eq ls) (filter eq ls) (ap is_eq e)))
       | inr f ↦
           elim f [
             | inl e ↦ front
                 ∙ ap (λ (us : List K). us ++ filter eq (l ∷ filter above ks)) (filter_filter_none eq below
-                (λ j h. ap is_lt (o.congr j k l (equal-from (cmp j k) h) ∙ tied_back o l k e)) ks)
+                (λ j h. ap is_lt (o.congr j k l (Equal-from_is_eq (cmp j k) h) ∙ tied_back o l k e)) ks)
                 ∙ cond-true (eq l) (l ∷ filter eq (filter above ks)) (filter eq (filter above ks))
                 (ap is_eq e)
                 ∙ ap (λ (us : List K). l ∷ us) (filter_filter_none eq above
-                (λ j h. ap is_lt (alike_right o j k l (equal-from (cmp j k) h) ∙ e)) ks)
+                (λ j h. ap is_lt (alike_right o j k l (Equal-from_is_eq (cmp j k) h) ∙ e)) ks)
                 ∙ ap (λ (u : K). u ∷ []) (one l k e)
                 ∙ ap (hit k) (sym (cond-true (eq l) (l ∷ filter eq ls) (filter eq ls) (ap is_eq e)))
             | inr e ↦ front
                 ∙ ap (λ (us : List K). us ++ filter eq (l ∷ filter above ks)) (filter_filter_same eq below
-                (λ j h. ap is_lt (o.congr j k l (equal-from (cmp j k) h) ∙ turned_back cmp o l k e)) ks)
+                (λ j h. ap is_lt (o.congr j k l (Equal-from_is_eq (cmp j k) h) ∙ turned_back cmp o l k e)) ks)
                 ∙ ap (λ (us : List K). filter eq ks ++ us)
                 (cond-false (eq l) (l ∷ filter eq (filter above ks)) (filter eq (filter above ks))
                 (ap is_eq e)
                 ∙ filter_filter_none eq above
-                (λ j h. ap is_lt (alike_right o j k l (equal-from (cmp j k) h) ∙ e)) ks)
+                (λ j h. ap is_lt (alike_right o j k l (Equal-from_is_eq (cmp j k) h) ∙ e)) ks)
                 ∙ append-nil (filter eq ks)
                 ∙ in_order-at cmp o one k ls
                 ∙ ap (hit k) (sym (cond-false (eq l) (l ∷ filter eq ls) (filter eq ls) (ap is_eq e)))
@@ -308,7 +221,7 @@ pub record Totals {K X : Type 0} (cmp : K → K → Ordering) (key : X → K) (t
 one_at : {K X : Type 0} (cmp : K → K → Ordering) (key : X → K) (tot : K → List X → X) (plus : X → X → X)
     → Totals cmp key tot plus → (k : K) (x : X) → is_eq (cmp (key x) k) ≡ true → tot k (x ∷ []) ≡ x
 one_at cmp key tot plus t k x e = ap (λ j. tot j (x ∷ []))
-    (sym (t.same (key x) k (equal-from (cmp (key x) k) e)))
+    (sym (t.same (key x) k (Equal-from_is_eq (cmp (key x) k) e)))
     ∙ t.one x
 
 map_hit : {K X : Type 0} (cmp : K → K → Ordering) (key : X → K) (tot : K → List X → X) (k : K)
@@ -373,7 +286,7 @@ at-climbs {K} {X} cmp key tot plus t k (x ∷ xs) h =
       | inl e ↦
           (let alone : at cmp key k (x ∷ xs) ≡ x ∷ [] = at-yes cmp key k x xs e
           ∙ ap (λ (ys : List X). x ∷ ys)
-          (none-tied cmp t.order key (key x) k xs (equal-from (cmp (key x) k) e) h.0) in
+          (none-tied cmp t.order key (key x) k xs (Equal-from_is_eq (cmp (key x) k) e) h.0) in
           alone ∙ ap (λ y. y ∷ []) (sym (one_at cmp key tot plus t k x e)) ∙ ap (whole tot k) (sym alone))
       | inr e ↦ at-no cmp key k x xs e ∙ at-climbs cmp key tot plus t k xs h.1
           ∙ ap (whole tot k) (sym (at-no cmp key k x xs e))
@@ -472,7 +385,7 @@ next-at : {K X : Type 0} (cmp : K → K → Ordering) (key : X → K) (tot : K �
 next-at {K} {X} cmp key tot plus t k z zs us vs h hit_z miss_z rest =
     elim (cases_Bool (is_eq (cmp (key z) k))) [
       | inl e ↦ at-yes cmp key k z zs e ∙ ap (λ (ws : List X). z ∷ ws) (none-tied cmp t.order key (key z) k zs
-          (equal-from (cmp (key z) k) e) h) ∙ sym (hit_z e)
+          (Equal-from_is_eq (cmp (key z) k) e) h) ∙ sym (hit_z e)
       | inr e ↦ at-no cmp key k z zs e ∙ rest ∙ ap (whole tot k) (sym (miss_z e))
     ]
 
@@ -514,9 +427,9 @@ merged-at {K} {X} cmp key tot plus t k (x ∷ xs) ys h g =
               (λ i. ap (whole tot k) (ap (λ (us : List X). us ++ at cmp key k (y ∷ ws))
               (at-yes cmp key k x xs i
               ∙ ap (λ (us : List X). x ∷ us)
-              (none-tied cmp t.order key (key x) k xs (equal-from (cmp (key x) k) i) h.0))
+              (none-tied cmp t.order key (key x) k xs (Equal-from_is_eq (cmp (key x) k) i) h.0))
               ∙ ap (λ (us : List X). x ∷ us)
-              (none-tied cmp t.order key (key x) k (y ∷ ws) (equal-from (cmp (key x) k) i) behind))
+              (none-tied cmp t.order key (key x) k (y ∷ ws) (Equal-from_is_eq (cmp (key x) k) i) behind))
               ∙ ap (λ z. z ∷ []) (one_at cmp key tot plus t k x i))
               (λ i. ap (λ (us : List X). us ++ at cmp key k (y ∷ ws)) (at-no cmp key k x xs i))
               (rest (y ∷ ws) l))
@@ -542,12 +455,12 @@ merged-at {K} {X} cmp key tot plus t k (x ∷ xs) ys h g =
                     (λ i. ap (whole tot k) (ap (λ (us : List X). us ++ at cmp key k (y ∷ ws))
                     (at-yes cmp key k x xs (turn true i)
                     ∙ ap (λ (us : List X). x ∷ us) (none-tied cmp t.order key (key x) k xs
-                    (equal-from (cmp (key x) k) (turn true i)) h.0))
+                    (Equal-from_is_eq (cmp (key x) k) (turn true i)) h.0))
                     ∙ ap (λ (us : List X). x ∷ us) (at-yes cmp key k y ws (turn_y true i)
                     ∙ ap (λ (us : List X). y ∷ us) (none-tied cmp t.order key (key y) k ws
-                    (equal-from (cmp (key y) k) (turn_y true i)) l.0)))
+                    (Equal-from_is_eq (cmp (key y) k) (turn_y true i)) l.0)))
                     ∙ ap (λ z. z ∷ []) (ap (λ j. tot j (x ∷ y ∷ []))
-                    (sym (t.same (key x) k (equal-from (cmp (key x) k) (turn true i)))) ∙ t.two x y))
+                    (sym (t.same (key x) k (Equal-from_is_eq (cmp (key x) k) (turn true i)))) ∙ t.two x y))
                     (λ i. ap (λ (us : List X). us ++ at cmp key k (y ∷ ws))
                     (at-no cmp key k x xs (turn false i))
                     ∙ ap (λ (us : List X). at cmp key k xs ++ us) (at-no cmp key k y ws (turn_y false i)))
@@ -564,9 +477,9 @@ merged-at {K} {X} cmp key tot plus t k (x ∷ xs) ys h g =
                     ++ at cmp key k ws)
                     (merged-above cmp key tot plus t (key y) (x ∷ xs) ws behind l.0)
                     (λ i. ap (whole tot k) (ap (λ (us : List X). us ++ at cmp key k (y ∷ ws))
-                    (none-tied cmp t.order key (key y) k (x ∷ xs) (equal-from (cmp (key y) k) i) behind)
+                    (none-tied cmp t.order key (key y) k (x ∷ xs) (Equal-from_is_eq (cmp (key y) k) i) behind)
                     ∙ at-yes cmp key k y ws i ∙ ap (λ (us : List X). y ∷ us)
-                    (none-tied cmp t.order key (key y) k ws (equal-from (cmp (key y) k) i) l.0))
+                    (none-tied cmp t.order key (key y) k ws (Equal-from_is_eq (cmp (key y) k) i) l.0))
                     ∙ ap (λ z. z ∷ []) (one_at cmp key tot plus t k y i))
                     (λ i. ap (λ (us : List X). at cmp key k (x ∷ xs) ++ us) (at-no cmp key k y ws i))
                     (go ws l.1 rest both tail))

@@ -12,6 +12,5 @@ pub mod PathSums
 pub mod RowClosings
 pub mod RowSums
 pub mod Shares
-pub mod TestProfiles
 pub mod Times
 pub mod Told

@@ -15,10 +15,20 @@ use Rattle.std.proofs.lemmas.List.Elements.{filter_agree}
 use Rattle.std.proofs.lemmas.List.Folds.{list_any_at}
 use Rattle.std.proofs.lemmas.List.Sums.{fold_more, sum_by-append, sum_by-cons}
 use Rattle.std.proofs.lemmas.Option.{slice_get-get_or}
+use Rattle.std.proofs.lemmas.Bool.{not-false, or_parts}
+use Rattle.std.specs.Cmp.{both_ways}
+use Rattle.list_lemmas.proofs.Booleans.{cond_empty, count_and-false, count_and_no, count_and_yes}
+use Rattle.list_lemmas.proofs.Booleans.{false_from_count, one_if}
+use Rattle.list_lemmas.proofs.Each.{all_from}
+use Rattle.list_lemmas.proofs.Filters.{filter-map, filter_none}
+use Rattle.list_lemmas.proofs.Found.{any_none}
+use Rattle.list_lemmas.proofs.Fronts.{cons_head, cons_tail, push_not_nil}
+use Rattle.list_lemmas.proofs.Members.{has_here}
+use Rattle.list_lemmas.proofs.Numbers.{either_pos-same, neither_pos}
+use Rattle.list_lemmas.proofs.Ranges.{range_sum-next, range_sum-same, range_with_len-more}
+use Rattle.list_lemmas.proofs.Sums.{sum_by-filter, sum_by-has, sum_by-map, sum_by-same, sum_by-some}
+use Rattle.list_lemmas.proofs.Sums.{sum_by-zero}
 use Rattle.trace_base.proofs.CallPaths.{call_paths-rising}
-use Rattle.trace_base.proofs.InOrder.{has_cons, has_here}
-use Rattle.trace_base.proofs.Order.{filter_none}
-use Rattle.trace_base.proofs.Ranges.{range_with_len-more}
 use Rattle.trace_base.specs.Flat.{is_bare, is_within, time_with}
 use Rattle.trace_base.specs.Paths.{call_paths, calls_making, is_path, is_under, makes, path_stands, paths}
 use Rattle.trace_base.specs.Stream.{is_enter, stack_after, stack_step, time_of, IsLegal}
@@ -30,55 +40,36 @@ use Rattle.trace_base.specs.declared.stream.TrackStream.{TrackStream}
 use Rattle.profile_math.specs.Laws.{call_of}
 use Rattle.profile_math.specs.PathClosing.{call_numbers, under_call, call_stands, closed_paths}
 use Rattle.profile_math.specs.PathSum.{PathNumbers, numbers_of, row_of_path}
-use Rattle.profile_math.proofs.CallTimes.{range-next, range-same, stack-call, sum_by-map, time-call}
+use Rattle.profile_math.proofs.CallTimes.{stack-call, time-call}
 use Rattle.profile_math.proofs.FlatCalls.{is_bare-cons, one_sum}
-use Rattle.profile_math.proofs.FlatRows.{or-none}
-use Rattle.profile_math.proofs.Keyed.{at, Climbs, at-no, at-yes, filter-map, one_list}
-use Rattle.profile_math.proofs.PathClosings.{all-some, all-under, climbs-under, lex-under, not_false}
+use Rattle.profile_math.proofs.Keyed.{at, Climbs, at-no, at-yes, one_list}
+use Rattle.profile_math.proofs.PathClosings.{all-some, all-under, climbs-under, lex-under}
 use Rattle.profile_math.proofs.PathLaws.{making-le, numbers_same, one-excl, path-of, path-one, path-same}
 use Rattle.profile_math.proofs.PathLaws.{path_numbers}
 use Rattle.profile_math.proofs.PathLaws.{paths-bare, same_is, stands-one}
 use Rattle.profile_math.proofs.PathLaws.{paths-depth-first, paths-numbers, paths-rows, paths-told, same-path}
-use Rattle.profile_math.proofs.PathLaws.{sum-some, take-under, under-take}
+use Rattle.profile_math.proofs.PathLaws.{take-under, under-take}
 use Rattle.profile_math.proofs.PathMerging.{lex, path_of}
-use Rattle.profile_math.proofs.PathSums.{climbs-of, head_of, tail_of}
+use Rattle.profile_math.proofs.PathSums.{climbs-of}
 use Rattle.profile_math.proofs.Shares.{time-same, time-split}
-use Rattle.profile_math.proofs.Times.{sum_by-filter, sum_by-same, time-le, time-none}
-use Rattle.profile_math.proofs.Told.{all_from, kept, same_path, told, told-at, told-climbs, told-is, told-nil}
+use Rattle.profile_math.proofs.Times.{time-le, time-none}
+use Rattle.profile_math.proofs.Told.{kept, same_path, told, told-at, told-climbs, told-is, told-nil}
 
 -- ---- calls that make a call stack with a property
-
--- what a test counts
-abbrev one_if : Bool → ℕ
-one_if t = cond t 1 0
-
-sum-has : {X : Type 0} (f : X → ℕ) (xs : List X) (x : X) → Contains xs x → 0 < f x → 0 < sum_by f xs
-sum-has f [] x c h = absurd (omega (arith, c.1))
-sum-has {X} f (y ∷ ys) x c h = elim (has_cons y x ys c) [
-  | inl e ↦ omega (arith, sum_by-cons f y ys, subst (λ (z : X). 0 < f z) (sym e) h)
-  | inr later ↦ omega (arith, sum_by-cons f y ys, sum-has f ys x later h)
-]
-
-sum-zero : {X : Type 0} (xs : List X) → sum_by (λ x. 0) xs ≡ 0
-sum-zero [] = refl
-sum-zero {X} (x ∷ xs) = omega (arith, sum_by-cons (λ (y : X). 0) x xs, sum-zero xs)
-
-some-bare : (st : List ℕ) (g : ℕ) → st ++ g ∷ [] ≢ []
-some-bare [] g e = cc
-some-bare (x ∷ st) g e = cc
 
 -- An Enter makes a call stack that isn't bare: properties that such stacks have alike.
 making-some : (has more : List ℕ → Bool) → ((q : List ℕ) → q ≢ [] → has q ≡ more q) → (a b : ℕ)
     (s : TrackStream) → calls_making has a b s ≡ calls_making more a b s
 unfolding calls_making stack_after
-making-some has more h a b s = range-same (λ i. one_if (makes has a b s i)) (λ i. one_if (makes more a b s i))
+making-some has more h a b s = range_sum-same (λ i. one_if (makes has a b s i)) (λ i. one_if (makes more a b s
+    i))
     0 (length s.events) (λ i l m. each i (omega arith))
   where
     by : (e : Event) (st : List ℕ)
         → one_if ((is_enter e && is_within a b (time_of e)) && has (stack_step st e))
         ≡ one_if ((is_enter e && is_within a b (time_of e)) && more (stack_step st e))
     by (Enter g t) st = ap {B = ℕ} (λ (u : Bool). one_if (is_within a b t && u))
-        (h (st ++ g ∷ []) (some-bare st g))
+        (h (st ++ g ∷ []) (push_not_nil st g))
     by (Leave t) st = refl
 
     each : (i : ℕ) → i < length s.events → one_if (makes has a b s i) ≡ one_if (makes more a b s i)
@@ -97,18 +88,15 @@ making-some has more h a b s = range-same (λ i. one_if (makes has a b s i)) (λ
         ∙ ap {B = ℕ} (λ (q : List ℕ). one_if ((is_enter e && is_within a b (time_of e)) && p q)) step in
         read has ∙ by e st ∙ sym (read more)
 
-and_no : (x : Bool) → one_if (x && false) ≡ 0
-and_no true = refl
-and_no false = refl
-
 making-none : (has : List ℕ → Bool) → ((q : List ℕ) → q ≢ [] → has q ≡ false) → (a b : ℕ) (s : TrackStream)
     → calls_making has a b s ≡ 0
 unfolding calls_making
 making-none has h a b s = making-some has (λ q. false) h a b s
     ∙ sum_by-same (λ i. one_if (makes (λ q. false) a b s i)) (λ i. 0)
-    (λ i. and_no (option_map_or (λ e. is_enter e && is_within a b (time_of e)) (slice_get s.events i) false))
+    (λ i. count_and-false (option_map_or (λ e. is_enter e && is_within a b (time_of e)) (slice_get s.events i)
+    false))
     (range_with_len 0 (length s.events))
-    ∙ sum-zero (range_with_len 0 (length s.events))
+    ∙ sum_by-zero (range_with_len 0 (length s.events))
 
 -- where a call makes a stack that isn't bare, that stack's own path has a call
 making-path : (a b : ℕ) (s : TrackStream) → 0 < calls_making (λ q. true) a b s
@@ -121,7 +109,7 @@ making-path a b s h =
       making-some (λ q. true)
           (λ q. not (is_bare q)) (λ q n. not_bare q n) a b s,
     ) in
-    let place = sum-some (λ i. one_if (makes (λ q. not (is_bare q)) a b s i))
+    let place = sum_by-some (λ i. one_if (makes (λ q. not (is_bare q)) a b s i))
     (range_with_len 0 (length s.events)) full in
     let k : List ℕ = stack_after (take (place.0 + 1) s.events) in
     let within : Bool =
@@ -129,7 +117,8 @@ making-path a b s h =
     let both = parts within (not (is_bare k)) place.2 in (
       k,
       bare_not k both.1,
-      sum-has (λ i. one_if (makes (is_under k) a b s i)) (range_with_len 0 (length s.events)) place.0 place.1
+      sum_by-has (λ i. one_if (makes (is_under k) a b s i)) (range_with_len 0 (length s.events)) place.0
+          place.1
           (whole_of within (is_under k k) both.0
           (take-under k k (sym (take_all (length k) k (omega arith))))),
     )
@@ -163,12 +152,12 @@ making-call has f a b s legal =
     omega (arith, length-append s.events (Leave s.end ∷ [])) in
     ap (λ m. sum_by g (range_with_len 0 m)) long
     ∙ sum_by-cons g 0 (range_with_len (0 + 1) (n + 1))
-    ∙ ap (λ m. g 0 + m) (range-next g 0 (n + 1)
+    ∙ ap (λ m. g 0 + m) (range_sum-next g 0 (n + 1)
     ∙ ap (sum_by (λ i. g (i + 1))) (range_with_len-more 0 n n (omega arith))
     ∙ sum_by-append (λ i. g (i + 1)) (range_with_len 0 n) (n ∷ [])
     ∙ ap (λ m. sum_by (λ i. g (i + 1)) (range_with_len 0 n) + m) (zero-add (g (n + 1)) ∙ last)
     ∙ add-zero (sum_by (λ i. g (i + 1)) (range_with_len 0 n))
-    ∙ range-same (λ i. g (i + 1)) (λ i. one_if (makes (λ q. has (f ∷ q)) a b s i)) 0 n
+    ∙ range_sum-same (λ i. g (i + 1)) (λ i. one_if (makes (λ q. has (f ∷ q)) a b s i)) 0 n
     (λ i l m. each i (omega arith)))
   where
     read : (i : ℕ) (o : Option Event) (q : List ℕ) → slice_get ((call_of f s).events) i ≡ o
@@ -206,19 +195,14 @@ making-call has f a b s legal =
 
 -- ---- paths under the call
 
-both_same : (b c : Bool) → (b ≡ true → c ≡ true) → (c ≡ true → b ≡ true) → b ≡ c
-both_same true c to from = sym (to refl)
-both_same false true to from = from refl
-both_same false false to from = refl
-
 under-cons : (f : ℕ) (k q : List ℕ) → is_under (f ∷ k) (f ∷ q) ≡ is_under k q
-under-cons f k q = both_same (is_under (f ∷ k) (f ∷ q)) (is_under k q)
-    (λ e. take-under k q (tail_of f f k (take (length k) q) (under-take (f ∷ k) (f ∷ q) e)))
+under-cons f k q = both_ways (is_under (f ∷ k) (f ∷ q)) (is_under k q)
+    (λ e. take-under k q (cons_tail f f k (take (length k) q) (under-take (f ∷ k) (f ∷ q) e)))
     (λ e. take-under (f ∷ k) (f ∷ q) (ap (λ (r : List ℕ). f ∷ r) (under-take k q e)))
 
 under-other : (f g : ℕ) (k q : List ℕ) → g ≢ f → is_under (g ∷ k) (f ∷ q) ≡ false
 under-other f g k q n = false_from_ne_true (is_under (g ∷ k) (f ∷ q))
-    (λ e. n (head_of g f k (take (length k) q) (under-take (g ∷ k) (f ∷ q) e)))
+    (λ e. n (cons_head g f k (take (length k) q) (under-take (g ∷ k) (f ∷ q) e)))
 
 under-all : (f : ℕ) (q : List ℕ) → is_under (f ∷ []) (f ∷ q) ≡ true
 under-all f q = take-under (f ∷ []) (f ∷ q) refl
@@ -228,8 +212,8 @@ under-some [] n = absurd (n refl)
 under-some (x ∷ k) n = false_from_ne_true (is_under (x ∷ k) []) (λ e. n (under-take (x ∷ k) [] e))
 
 path-cons : (f : ℕ) (k q : List ℕ) → is_path (f ∷ k) (f ∷ q) ≡ is_path k q
-path-cons f k q = both_same (is_path (f ∷ k) (f ∷ q)) (is_path k q)
-    (λ e. same-path k q (tail_of f f q k (path-same (f ∷ k) (f ∷ q) e)))
+path-cons f k q = both_ways (is_path (f ∷ k) (f ∷ q)) (is_path k q)
+    (λ e. same-path k q (cons_tail f f q k (path-same (f ∷ k) (f ∷ q) e)))
     (λ e. same-path (f ∷ k) (f ∷ q) (ap (λ (r : List ℕ). f ∷ r) (path-same k q e)))
 
 path-bare : (q : List ℕ) → is_path [] q ≡ is_bare q
@@ -244,19 +228,12 @@ making-same : (has more : List ℕ → Bool) → ((q : List ℕ) → has q ≡ m
     → calls_making has a b s ≡ calls_making more a b s
 making-same has more h a b s = making-some has more (λ q n. h q) a b s
 
-cond-no : (x y : Bool) → y ≡ false → one_if (x && y) ≡ 0
-cond-no x y e = ap {B = ℕ} (λ (t : Bool). one_if (x && t)) e ∙ and_no x
-
-cond-yes : (x y : Bool) → y ≡ true → one_if (x && y) ≡ one_if x
-cond-yes true y e = ap {B = ℕ} (λ (t : Bool). one_if t) e
-cond-yes false y e = refl
-
 -- calls and time in the call, by path
 making-under : (f a b : ℕ) (s : TrackStream) (k : List ℕ) → IsLegal s → k ≢ []
     → calls_making (is_under (f ∷ k)) a b (call_of f s) ≡ calls_making (is_under k) a b s
 making-under f a b s k legal n = making-call (is_under (f ∷ k)) f a b s legal
     ∙ ap (λ m. m + calls_making (λ q. is_under (f ∷ k) (f ∷ q)) a b s)
-    (cond-no (is_within a b s.start) (is_under (f ∷ k) (f ∷ [])) (under-cons f k [] ∙ under-some k n))
+    (count_and_no (is_within a b s.start) (is_under (f ∷ k) (f ∷ [])) (under-cons f k [] ∙ under-some k n))
     ∙ zero-add (calls_making (λ q. is_under (f ∷ k) (f ∷ q)) a b s)
     ∙ making-same (λ q. is_under (f ∷ k) (f ∷ q)) (is_under k) (under-cons f k) a b s
 
@@ -264,7 +241,7 @@ making-exact : (f a b : ℕ) (s : TrackStream) (k : List ℕ) → IsLegal s → 
     → calls_making (is_path (f ∷ k)) a b (call_of f s) ≡ calls_making (is_path k) a b s
 making-exact f a b s k legal n = making-call (is_path (f ∷ k)) f a b s legal
     ∙ ap (λ m. m + calls_making (λ q. is_path (f ∷ k) (f ∷ q)) a b s)
-    (cond-no (is_within a b s.start) (is_path (f ∷ k) (f ∷ [])) (path-cons f k [] ∙ path-some k n))
+    (count_and_no (is_within a b s.start) (is_path (f ∷ k) (f ∷ [])) (path-cons f k [] ∙ path-some k n))
     ∙ zero-add (calls_making (λ q. is_path (f ∷ k) (f ∷ q)) a b s)
     ∙ making-same (λ q. is_path (f ∷ k) (f ∷ q)) (is_path k) (path-cons f k) a b s
 
@@ -286,7 +263,7 @@ making-own : (f a b : ℕ) (s : TrackStream) → IsLegal s
     + calls_making (λ q. true) a b s
 making-own f a b s legal = making-call (is_under (f ∷ [])) f a b s legal
     ∙ ap (λ m. m + calls_making (λ q. is_under (f ∷ []) (f ∷ q)) a b s)
-    (cond-yes (is_within a b s.start) (is_under (f ∷ []) (f ∷ [])) (under-all f []))
+    (count_and_yes (is_within a b s.start) (is_under (f ∷ []) (f ∷ [])) (under-all f []))
     ∙ ap (λ m. one_if (is_within a b s.start) + m)
     (making-same (λ q. is_under (f ∷ []) (f ∷ q)) (λ q. true) (under-all f) a b s)
 
@@ -294,7 +271,7 @@ making-once : (f a b : ℕ) (s : TrackStream) → IsLegal s
     → calls_making (is_path (f ∷ [])) a b (call_of f s) ≡ one_if (is_within a b s.start)
 making-once f a b s legal = making-call (is_path (f ∷ [])) f a b s legal
     ∙ ap (λ m. m + calls_making (λ q. is_path (f ∷ []) (f ∷ q)) a b s)
-    (cond-yes (is_within a b s.start) (is_path (f ∷ []) (f ∷ [])) (same-path (f ∷ []) (f ∷ []) refl))
+    (count_and_yes (is_within a b s.start) (is_path (f ∷ []) (f ∷ [])) (same-path (f ∷ []) (f ∷ []) refl))
     ∙ ap (λ m. one_if (is_within a b s.start) + m)
     (making-none (λ q. is_path (f ∷ []) (f ∷ q)) (λ q n. path-cons f [] q ∙ path-bare q ∙ not_bare q n) a b s)
     ∙ add-zero (one_if (is_within a b s.start))
@@ -316,11 +293,6 @@ time-bare f a b s legal = time-exact f a b s [] legal
 
 -- ---- all time of the content is bare or some path's own
 
-any-none : (p : List ℕ → Bool) (ks : List (List ℕ)) → AllByRecursion (λ k. p k ≡ false) ks
-    → list_any p ks ≡ false
-any-none p [] h = refl
-any-none p (k ∷ ks) h = ap (λ t. t || list_any p ks) h.0 ∙ any-none p ks h.1
-
 above-none : (k q : List ℕ) (ks : List (List ℕ)) → AllByRecursion (λ j. lex k j ≡ Less) ks → q ≡ k
     → AllByRecursion (λ j. is_path j q ≡ false) ks
 above-none k q [] h e = tt
@@ -339,7 +311,7 @@ first-or k q ks c h =
     let rest : Bool = list_any (λ j. is_path j q) ks in
     elim (cases_Bool (is_path k q)) [
       | inl e ↦
-          (let none : rest ≡ false = any-none (λ j. is_path j q) ks (above-none k q ks h (path-same k q e)) in
+          (let none : rest ≡ false = any_none (λ j. is_path j q) ks (above-none k q ks h (path-same k q e)) in
           split (is_path k q) rest (inr none))
       | inr e ↦ split (is_path k q) rest (inl e)
     ]
@@ -369,7 +341,7 @@ stack-any s i c = by (stack_after (take i s.events)) refl
 
     by : (q : List ℕ) → stack_after (take i s.events) ≡ q
         → c ≡ cond (is_bare q) c 0 + cond (list_any (λ k. is_path k q) (call_paths (s ∷ []))) c 0
-    by [] e = sym (ap {B = ℕ} (λ (t : Bool). c + cond t c 0) (any-none (λ k. is_path k [])
+    by [] e = sym (ap {B = ℕ} (λ (t : Bool). c + cond t c 0) (any_none (λ k. is_path k [])
         (call_paths (s ∷ []))
         (all_from (λ k. is_path k [] ≡ false) (call_paths (s ∷ []))
         (λ k h. path-some k (((call_paths-rising (s ∷ [])).exact k).0 h).some)))
@@ -452,14 +424,10 @@ numbers-own f a b s legal =
     (time_with (is_path (f ∷ [])) a b (call_of f s)) p.bare
     (making-once f a b s legal) (time-own f a b s legal ∙ total-time a b s) (time-bare f a b s legal ∙ bare)
 
-stands-same : (c1 c2 t1 t2 : ℕ) → c1 ≡ c2 → t1 ≡ t2
-    → (nat_lt 0 c1 || nat_lt 0 t1) ≡ (nat_lt 0 c2 || nat_lt 0 t2)
-stands-same c1 c2 t1 t2 e g = rw (e, g) refl
-
 stands-under : (f a b : ℕ) (s : TrackStream) (k : List ℕ) → IsLegal s → k ≢ []
     → path_stands (call_of f s ∷ []) a b (f ∷ k) ≡ path_stands (s ∷ []) a b k
 stands-under f a b s k legal n = stands-one (call_of f s) a b (f ∷ k)
-    ∙ stands-same (calls_making (is_under (f ∷ k)) a b (call_of f s)) (calls_making (is_under k) a b s)
+    ∙ either_pos-same (calls_making (is_under (f ∷ k)) a b (call_of f s)) (calls_making (is_under k) a b s)
     (time_with (is_under (f ∷ k)) a b (call_of f s)) (time_with (is_under k) a b s)
     (making-under f a b s k legal n) (time-under f a b s k legal)
     ∙ sym (stands-one s a b k)
@@ -467,11 +435,11 @@ stands-under f a b s k legal n = stands-one (call_of f s) a b (f ∷ k)
 stands-other : (f g a b : ℕ) (s : TrackStream) (k : List ℕ) → IsLegal s → g ≢ f
     → path_stands (call_of f s ∷ []) a b (g ∷ k) ≡ false
 stands-other f g a b s k legal n = stands-one (call_of f s) a b (g ∷ k)
-    ∙ stands-same (calls_making (is_under (g ∷ k)) a b (call_of f s)) 0
+    ∙ either_pos-same (calls_making (is_under (g ∷ k)) a b (call_of f s)) 0
     (time_with (is_under (g ∷ k)) a b (call_of f s)) 0
     (making-call (is_under (g ∷ k)) f a b s legal
     ∙ ap (λ m. m + calls_making (λ q. is_under (g ∷ k) (f ∷ q)) a b s)
-    (cond-no (is_within a b s.start) (is_under (g ∷ k) (f ∷ [])) (under-other f g k [] n))
+    (count_and_no (is_within a b s.start) (is_under (g ∷ k) (f ∷ [])) (under-other f g k [] n))
     ∙ zero-add (calls_making (λ q. is_under (g ∷ k) (f ∷ q)) a b s)
     ∙ making-none (λ q. is_under (g ∷ k) (f ∷ q)) (λ q m. under-other f g k q n) a b s)
     (time-call (is_under (g ∷ k)) f a b s legal
@@ -503,15 +471,6 @@ told-none a b s e k n =
     by true m e = cc
     by false m e = refl
 
-calls-and-time : (c t : ℕ) → (nat_lt 0 c || nat_lt 0 t) ≡ false → (c ≡ 0) × (t ≡ 0)
-calls-and-time c t e =
-    let none = or-none (nat_lt 0 c) (nat_lt 0 t) e in
-    (omega (arith, ltb-false 0 c none.0), omega (arith, ltb-false 0 t none.1))
-
-begun-none : (t : Bool) → one_if t ≡ 0 → t ≡ false
-begun-none true e = absurd (omega (arith, e))
-begun-none false e = refl
-
 -- the call has a row where it is counted, has time, or has rows under it
 stands-own : (f a b : ℕ) (s : TrackStream) → IsLegal s → path_stands (call_of f s ∷ []) a b (f ∷ [])
     ≡ call_stands (is_within a b s.start) (paths (s ∷ []) a b)
@@ -523,12 +482,12 @@ stands-own f a b s legal =
     let is : path_stands (call_of f s ∷ []) a b (f ∷ []) ≡ (nat_lt 0 (one_if begun + calls)
     || nat_lt 0 time) =
     stands-one (call_of f s) a b (f ∷ [])
-    ∙ stands-same (calls_making (is_under (f ∷ [])) a b (call_of f s)) (one_if begun + calls)
+    ∙ either_pos-same (calls_making (is_under (f ∷ [])) a b (call_of f s)) (one_if begun + calls)
     (time_with (is_under (f ∷ [])) a b (call_of f s)) time (making-own f a b s legal) (time-own f a b s legal)
     in
     is ∙ elim (cases_Bool (call_stands begun p)) [
       | inl e ↦ true_from_ne_false (nat_lt 0 (one_if begun + calls) || nat_lt 0 time)
-          (λ z. true≢false (sym e ∙ empty (calls-and-time (one_if begun + calls) time z))) ∙ sym e
+          (λ z. true≢false (sym e ∙ empty (neither_pos (one_if begun + calls) time z))) ∙ sym e
       | inr e ↦ nothing e ∙ sym e
     ]
   where
@@ -539,10 +498,10 @@ stands-own f a b s legal =
         let total = total-time a b s in
         let calls : calls_making (λ q. true) a b s ≡ 0 = omega (arith, h.0) in
         let no_bare : p.bare ≡ 0 = omega (arith, total, h.1) in
-        let not_begun : is_within a b s.start ≡ false = begun-none (is_within a b s.start)
+        let not_begun : is_within a b s.start ≡ false = false_from_count (is_within a b s.start)
         (omega (arith, h.0)) in
         let no_rows : p.rows ≡ [] = rows-none a b s (λ k. stands-one s a b k
-        ∙ stands-same (calls_making (is_under k) a b s) 0 (time_with (is_under k) a b s) 0
+        ∙ either_pos-same (calls_making (is_under k) a b s) 0 (time_with (is_under k) a b s) 0
         (omega (arith, calls, making-le (is_under k) (λ q. true) (λ q g. refl) a b s))
         (omega (arith, h.1, time-le (is_under k) (λ q. true) (λ q g. refl) a b s))) in
         ap {B = Bool} (λ (t : Bool). (t || nat_lt 0 p.bare) || not (length p.rows == 0)) not_begun
@@ -554,11 +513,11 @@ stands-own f a b s legal =
         || nat_lt 0 (time_with (λ q. true) a b s)) ≡ false
     nothing e =
         let p : PathProfile = paths (s ∷ []) a b in
-        let none = or-none (is_within a b s.start || nat_lt 0 p.bare) (not (length p.rows == 0)) e in
-        let own = or-none (is_within a b s.start) (nat_lt 0 p.bare) none.0 in
+        let none = or_parts (is_within a b s.start || nat_lt 0 p.bare) (not (length p.rows == 0)) e in
+        let own = or_parts (is_within a b s.start) (nat_lt 0 p.bare) none.0 in
         let no_bare : p.bare ≡ 0 = omega (arith, ltb-false 0 p.bare own.1) in
         let no_rows : p.rows ≡ [] = nil_from_length p.rows (eqb-true (length p.rows) 0
-        (not_false (length p.rows == 0) none.1)) in
+        (not-false (length p.rows == 0) none.1)) in
         let no_excl : sum_by (λ r. r.excl) p.rows ≡ 0 = ap (λ (rs : List PathRow). sum_by (λ r. r.excl) rs)
         no_rows in
         let no_time : time_with (λ q. true) a b s ≡ 0 = omega (arith, total-time a b s, no_bare, no_excl) in
@@ -566,12 +525,12 @@ stands-own f a b s legal =
           | inl l ↦
               (let found = making-path a b s l in
               let c : (calls_making (is_under found.0) a b s ≡ 0) × (time_with (is_under found.0) a b s ≡ 0) =
-              calls-and-time (calls_making (is_under found.0) a b s) (time_with (is_under found.0) a b s)
+              neither_pos (calls_making (is_under found.0) a b s) (time_with (is_under found.0) a b s)
               (sym (stands-one s a b found.0) ∙ told-none a b s no_rows found.0 found.1) in
               absurd (omega (arith, found.2, c.0)))
           | inr z ↦ omega (arith, z)
         ] in
-        stands-same (one_if (is_within a b s.start) + calls_making (λ q. true) a b s) 0
+        either_pos-same (one_if (is_within a b s.start) + calls_making (λ q. true) a b s) 0
         (time_with (λ q. true) a b s) 0
         (ap {B = ℕ} (λ (t : Bool). one_if t + calls_making (λ q. true) a b s) own.0 ∙ zero-add _ ∙ no_calls)
         no_time
@@ -591,7 +550,7 @@ at-nil f (n ∷ ns) = at-no lex path_of [] (under_call f n) (map (under_call f) 
 
 other_path : (f g : ℕ) (p k : List ℕ) → g ≢ f → is_eq (lex (f ∷ p) (g ∷ k)) ≡ false
 other_path f g p k n = false_from_ne_true (is_eq (lex (f ∷ p) (g ∷ k)))
-    (λ e. n (sym (head_of f g p k (same_path (f ∷ p) (g ∷ k) e))))
+    (λ e. n (sym (cons_head f g p k (same_path (f ∷ p) (g ∷ k) e))))
 
 at-other : (f g : ℕ) (k : List ℕ) (ns : List PathNumbers) → g ≢ f
     → at lex path_of (g ∷ k) (map (under_call f) ns) ≡ []
@@ -625,17 +584,13 @@ map-kept : (f : ℕ) (t : Bool) (n : PathNumbers) → map (under_call f) (kept t
 map-kept f true n = refl
 map-kept f false n = refl
 
-cond-none : {X : Type 0} (t : Bool) (us : List X) → us ≡ [] → cond t us [] ≡ []
-cond-none true us e = e
-cond-none false us e = refl
-
 cond-kept : (t u : Bool) (n : PathNumbers) → (t ≡ false → u ≡ false) → cond t (kept u n) [] ≡ kept u n
 cond-kept true u n h = refl
 cond-kept false u n h = ap (λ v. kept v n) (sym (h refl))
 
 no-rows : (begun : Bool) (p : PathProfile) → call_stands begun p ≡ false → p.rows ≡ []
-no-rows begun p e = nil_from_length p.rows (eqb-true (length p.rows) 0 (not_false (length p.rows == 0)
-    (or-none (begun || nat_lt 0 p.bare) (not (length p.rows == 0)) e).1))
+no-rows begun p e = nil_from_length p.rows (eqb-true (length p.rows) 0 (not-false (length p.rows == 0)
+    (or_parts (begun || nat_lt 0 p.bare) (not (length p.rows == 0)) e).1))
 
 call-at : (f a b : ℕ) (s : TrackStream) → IsLegal s → (k : List ℕ)
     → at lex path_of k (told (path_numbers (call_of f s ∷ []) a b) (path_stands (call_of f s ∷ []) a b)
@@ -650,7 +605,7 @@ call-at f a b s legal [] =
     told-nil (path_numbers (call_of f s ∷ []) a b) (path_stands (call_of f s ∷ []) a b)
     (call_paths (call_of f s ∷ [])) (paths-told (call_of f s ∷ []) a b)
     ∙ sym (over-at (call_stands begun p) call f ns []
-    ∙ cond-none (call_stands begun p) (at lex path_of [] (call ∷ map (under_call f) ns))
+    ∙ cond_empty (call_stands begun p) (at lex path_of [] (call ∷ map (under_call f) ns))
     (at-no lex path_of [] call (map (under_call f) ns) refl ∙ at-nil f ns))
 call-at f a b s legal (g ∷ k) =
     let p : PathProfile = paths (s ∷ []) a b in
@@ -665,7 +620,7 @@ call-at f a b s legal (g ∷ k) =
       | inr n ↦ here
           ∙ ap (λ u. kept u (path_numbers (call_of f s ∷ []) a b (g ∷ k))) (stands-other f g a b s k legal n)
           ∙ sym (over-at t call f ns (g ∷ k)
-          ∙ cond-none t (at lex path_of (g ∷ k) (call ∷ map (under_call f) ns))
+          ∙ cond_empty t (at lex path_of (g ∷ k) (call ∷ map (under_call f) ns))
           (at-no lex path_of (g ∷ k) call (map (under_call f) ns) (other_path f g [] k n)
           ∙ at-other f g k ns n))
       | inl e ↦ here

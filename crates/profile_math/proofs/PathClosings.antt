@@ -6,10 +6,12 @@ use Rattle.std.proofs.Common.{arith, suc}
 use Rattle.std.specs.List.{AllByRecursion}
 use Rattle.std.specs.Ordering.{ordering_then}
 use Rattle.std.specs.declared.cmp.Ordering.TheVariants.{Less}
-use Rattle.std.proofs.lemmas.Bool.{cond-true, cond-false, ltb-false, true≢false, eqb-true}
+use Rattle.std.proofs.lemmas.Bool.{cond-true, cond-false, ltb-false, eqb-true}
 use Rattle.std.proofs.lemmas.Cmp.{nat_cmp_total, tied_itself}
 use Rattle.std.proofs.lemmas.List.{get_or-map, length-map, nil_from_length}
 use Rattle.std.proofs.lemmas.List.Elements.{All-head, All-tail}
+use Rattle.std.proofs.lemmas.Bool.{not-false, or_parts}
+use Rattle.list_lemmas.proofs.Positions.{slice_index-last}
 use Rattle.trace_base.specs.declared.profile.PathRow.{PathRow}
 use Rattle.trace_base.specs.declared.profile.PathProfile.{PathProfile}
 use Rattle.profile_math.specs.PathClosing.{call_numbers, under_call, call_stands, closed_paths, one_deeper}
@@ -18,7 +20,7 @@ use Rattle.profile_math.specs.PathSum.{IsDepthFirst}
 use Rattle.profile_math.specs.PathSum.{PathRowFits}
 use Rattle.profile_math.proofs.Keyed.{Climbs}
 use Rattle.profile_math.proofs.PathMerging.{lex, path_of, Deep, length-after, chain-deep}
-use Rattle.profile_math.proofs.PathSums.{last-path, depth_first, chain-of, climbs-of, nil-first}
+use Rattle.profile_math.proofs.PathSums.{depth_first, chain-of, climbs-of, nil-first}
 
 -- the rows of the paths under a call are the rows one deeper
 under-deeper : (f : ℕ) (a : List ℕ) (rows : List PathRow) → Deep a rows
@@ -38,7 +40,7 @@ under-deeper f a (r ∷ rs) h =
       calls = r.calls;
       incl = r.incl;
       excl = r.excl;
-    } in s ∷ map one_deeper rs) (last-path (f ∷ take (r.depth - 1) a) r.func)
+    } in s ∷ map one_deeper rs) (slice_index-last (f ∷ take (r.depth - 1) a) r.func)
     ∙ ap (λ n. let s : PathRow = record {
       depth = n;
       func = r.func;
@@ -146,24 +148,16 @@ closed-fits f begun p h s fits =
           (rest k (one_deeper d) (omega (arith, length-map p.rows one_deeper)))).0,
     )
 
-or_none : (a b : Bool) → (a || b) ≡ false → (a ≡ false) × (b ≡ false)
-or_none true b e = absurd (true≢false e)
-or_none false b e = (refl, e)
-
-pub not_false : (b : Bool) → not b ≡ false → b ≡ true
-not_false true e = refl
-not_false false e = absurd (true≢false e)
-
 -- where the call has no row, the profile is empty, and stays so
 pub closed-none : (f : ℕ) (begun : Bool) (p : PathProfile) → call_stands begun p ≡ false
     → p ≡ closed_paths f begun p
 unfolding closed_paths
 closed-none f begun p s =
-    let none = or_none (begun || nat_lt 0 p.bare) (not (length p.rows == 0)) s in
-    let no_time = or_none begun (nat_lt 0 p.bare) none.0 in
+    let none = or_parts (begun || nat_lt 0 p.bare) (not (length p.rows == 0)) s in
+    let no_time = or_parts begun (nat_lt 0 p.bare) none.0 in
     let bare : p.bare ≡ 0 = omega (arith, ltb-false 0 p.bare no_time.1) in
     let rows : p.rows ≡ [] = nil_from_length p.rows (eqb-true (length p.rows) 0
-    (not_false (length p.rows == 0) none.1)) in
+    (not-false (length p.rows == 0) none.1)) in
     ap (λ n. let x : PathProfile = record { bare = n; rows = p.rows } in x) bare
     ∙ ap (λ us. let x : PathProfile = record { bare = 0; rows = us } in x)
     (rows ∙ sym (cond-false (call_stands begun p)

@@ -2,18 +2,23 @@
 use Rattle.std.proofs.Common.{◌≡◌, ◌≢◌, ℕ, ◌+◌, ◌-◌, ◌<◌, ◌≤◌, Bool, true, false, cond, ◌&&◌, ◌||◌, List, []}
 use Rattle.std.proofs.Common.{◌∷◌, ◌++◌, length, take, map, filter, sum_by, nat_lt, Option, None}
 use Rattle.std.proofs.Common.{Some, refl}
-use Rattle.std.proofs.Common.{ap, sym, subst, ◌∙◌, ◌⊎◌, inl, inr, arith, slice_get, add-zero, zero-add}
+use Rattle.std.proofs.Common.{ap, sym, subst, ◌∙◌, ◌⊎◌, inl, inr, arith, slice_get, zero-add}
 use Rattle.std.specs.Cmp.Lexicographic.{texts_ties}
 use Rattle.std.specs.List.{Contains, range_with_len}
 use Rattle.std.specs.Option.{option_map_or}
 use Rattle.std.specs.Ordering.{is_eq}
-use Rattle.std.proofs.lemmas.Bool.{cases_lt, ltb-false, lt-ltb, ltb-true, true≢false}
-use Rattle.std.proofs.lemmas.Bool.Decides.{nat_tests}
+use Rattle.std.proofs.lemmas.Bool.{cases_lt, ltb-false, lt-ltb, ltb-true}
 use Rattle.std.proofs.lemmas.Cmp.{nat_list_cmp_total, tied_itself}
 use Rattle.std.proofs.lemmas.List.{length-take, take-take, take_all}
-use Rattle.std.proofs.lemmas.List.Sums.{sum_by-append, sum_by-cons}
+use Rattle.std.proofs.lemmas.List.Sums.{sum_by-append}
+use Rattle.std.proofs.lemmas.Bool.{or_cases, or_left, or_parts, or_right}
+use Rattle.std.proofs.lemmas.List.Sums.{sum_by-le-sum_by}
+use Rattle.std.proofs.lemmas.Simd.{map-map}
+use Rattle.std.specs.Cmp.{second_so}
+use Rattle.list_lemmas.proofs.Booleans.{count_and-le, count_and-plus, true_from_pos}
+use Rattle.list_lemmas.proofs.Numbers.{either_pos-plus, within-plus}
+use Rattle.list_lemmas.proofs.Sums.{sum_by-plus, sum_by-some}
 use Rattle.trace_base.proofs.CallPaths.{call_paths-rising}
-use Rattle.trace_base.proofs.InOrder.{has_here, has_there}
 use Rattle.trace_base.specs.Flat.{is_bare, is_within, time_with}
 use Rattle.trace_base.specs.Paths.{call_paths, calls_making, is_path, is_under, makes, path_row, path_stands}
 use Rattle.trace_base.specs.Paths.{paths, IsPathOf}
@@ -24,82 +29,45 @@ use Rattle.trace_base.specs.declared.stream.TrackStream.{TrackStream}
 use Rattle.profile_math.specs.PathSum.{PathNumbers, by_path, numbers_of, row_of_path, sum_of_paths}
 use Rattle.profile_math.specs.PathSum.{IsDepthFirst}
 use Rattle.profile_math.proofs.CallTimes.{part, time-parts}
-use Rattle.profile_math.proofs.FlatRows.{or-cases, or-left, or-none, or-right}
 use Rattle.profile_math.proofs.Keyed.{climbs-sorted}
 use Rattle.profile_math.proofs.PathMerging.{lex, numbers_plus}
-use Rattle.profile_math.proofs.Times.{sum-le, sum_by-plus, time-le, time-plus, within-plus}
-use Rattle.profile_math.proofs.Told.{Tells, map-map, no_numbers, parent, same_path, told, told-depth-first}
+use Rattle.profile_math.proofs.Times.{time-le, time-plus}
+use Rattle.profile_math.proofs.Told.{Tells, no_numbers, parent, same_path, told, told-depth-first}
 use Rattle.profile_math.proofs.Told.{told-numbers, told-sum}
 
 -- ---- what makes a sum positive
-
-pub sum-some : {X : Type 0} (f : X → ℕ) (xs : List X) → 0 < sum_by f xs
-    → (x : X) × Contains xs x × (0 < f x)
-sum-some f [] h = absurd (omega (arith, h))
-sum-some f (x ∷ xs) h =
-    elim (cases_lt 0 (f x)) [
-      | inl l ↦ (x, has_here x xs, l)
-      | inr z ↦
-          (let rest = sum-some f xs (omega (arith, sum_by-cons f x xs, h, z)) in
-          (rest.0, has_there x rest.0 xs rest.1, rest.2))
-    ]
-
-cond-some : (t : Bool) (n : ℕ) → 0 < cond t n 0 → t ≡ true
-cond-some true n h = refl
-cond-some false n h = absurd (omega (arith, h))
 
 -- where time has a property, a call stack does
 pub time-some : (has : List ℕ → Bool) (a b : ℕ) (s : TrackStream) → 0 < time_with has a b s
     → (i : ℕ) × (has (stack_after (take i s.events)) ≡ true)
 unfolding part
 time-some has a b s h =
-    let place = sum-some (part has a b s) (range_with_len 0 (length s.events + 1))
+    let place = sum_by-some (part has a b s) (range_with_len 0 (length s.events + 1))
     (subst (λ n. 0 < n) (time-parts has a b s) h) in
-    (place.0, cond-some (has (stack_after (take place.0 s.events))) _ place.2)
-
-and-right : (a b : Bool) → (a && b) ≡ true → b ≡ true
-and-right true b e = e
-and-right false b e = absurd (true≢false (sym e))
+    (place.0, true_from_pos (has (stack_after (take place.0 s.events))) _ place.2)
 
 -- where a call makes a stack with a property, a call stack has it
 pub calls-some : (has : List ℕ → Bool) (a b : ℕ) (s : TrackStream) → 0 < calls_making has a b s
     → (i : ℕ) × (has (stack_after (take i s.events)) ≡ true)
 unfolding calls_making
 calls-some has a b s h =
-    let place = sum-some (λ i. cond (makes has a b s i) 1 0) (range_with_len 0 (length s.events)) h in (
+    let place = sum_by-some (λ i. cond (makes has a b s i) 1 0) (range_with_len 0 (length s.events)) h in (
       place.0 + 1,
-      and-right _ (has (stack_after (take (place.0 + 1) s.events)))
-          (cond-some (makes has a b s place.0) 1 place.2),
+      second_so _ (has (stack_after (take (place.0 + 1) s.events)))
+          (true_from_pos (makes has a b s place.0) 1 place.2),
     )
 
 -- ---- calls that make a stack with a property
-
-and-le : (x t u : Bool) → (t ≡ true → u ≡ true) → cond (x && t) 1 0 ≤ cond (x && u) 1 0
-and-le false t u h = omega arith
-and-le true false u h = omega arith
-and-le true true u h = subst (λ (v : Bool). 1 ≤ cond v 1 0) (sym (h refl)) (omega arith)
 
 -- the calls of a property are at most those of one that it implies
 pub making-le : (has more : List ℕ → Bool) → ((q : List ℕ) → has q ≡ true → more q ≡ true)
     → (a b : ℕ) (s : TrackStream) → calls_making has a b s ≤ calls_making more a b s
 unfolding calls_making
-making-le has more h a b s = sum-le (λ i. cond (makes has a b s i) 1 0) (λ i. cond (makes more a b s i) 1 0)
-    (λ i. and-le
+making-le has more h a b s = sum_by-le-sum_by (λ i. cond (makes has a b s i) 1 0) (λ i. cond (makes more a b s
+    i) 1 0) (range_with_len 0 (length s.events)) (λ i. count_and-le
     (option_map_or (λ e. is_enter e && is_within a b (time_of e)) (slice_get s.events i) false)
     (has (stack_after (take (i + 1) s.events))) (more (stack_after (take (i + 1) s.events)))
-    (h (stack_after (take (i + 1) s.events)))) (range_with_len 0 (length s.events))
-
-and-plus : (x w u v h : Bool) → cond w 1 0 ≡ cond u 1 0 + cond v 1 0
-    → cond ((x && w) && h) 1 0 ≡ cond ((x && u) && h) 1 0 + cond ((x && v) && h) 1 0
-and-plus false w u v h e = refl
-and-plus true true true true h e = absurd (omega (arith, e))
-and-plus true true true false h e = sym (add-zero (cond h 1 0))
-and-plus true true false true h e = sym (zero-add (cond h 1 0))
-and-plus true true false false h e = absurd (omega (arith, e))
-and-plus true false true true h e = absurd (omega (arith, e))
-and-plus true false true false h e = absurd (omega (arith, e))
-and-plus true false false true h e = absurd (omega (arith, e))
-and-plus true false false false h e = refl
+    (h (stack_after (take (i + 1) s.events))))
 
 -- an interval in two parts
 pub making-plus : (has : List ℕ → Bool) (a b c : ℕ) → a ≤ b → b ≤ c → (s : TrackStream)
@@ -116,7 +84,7 @@ making-plus has a b c h g s = sum_by-plus (λ i. cond (makes has a c s i) 1 0)
         ≡ cond (option_map_or (λ e. is_enter e && is_within a b (time_of e)) o false && t) 1 0
         + cond (option_map_or (λ e. is_enter e && is_within b c (time_of e)) o false && t) 1 0
     each None t = refl
-    each (Some e) t = and-plus (is_enter e) (is_within a c (time_of e)) (is_within a b (time_of e))
+    each (Some e) t = count_and-plus (is_enter e) (is_within a c (time_of e)) (is_within a b (time_of e))
         (is_within b c (time_of e)) t (within-plus a b c (time_of e) h g)
 
 -- ---- paths that a call stack begins with
@@ -198,7 +166,7 @@ pub stands-cases : (ss : List TrackStream) (a b : ℕ) (k : List ℕ) → path_s
     → (0 < sum_by (calls_making (is_under k) a b) ss) ⊎ (0 < sum_by (time_with (is_under k) a b) ss)
 unfolding path_stands
 stands-cases ss a b k e =
-    elim (or-cases (nat_lt 0 (sum_by (calls_making (is_under k) a b) ss))
+    elim (or_cases (nat_lt 0 (sum_by (calls_making (is_under k) a b) ss))
     (nat_lt 0 (sum_by (time_with (is_under k) a b) ss)) e) [
       | inl l ↦ inl (ltb-true 0 (sum_by (calls_making (is_under k) a b) ss) l)
       | inr l ↦ inr (ltb-true 0 (sum_by (time_with (is_under k) a b) ss) l)
@@ -212,8 +180,8 @@ stands-by ss a b k h =
     let calls : ℕ = sum_by (calls_making (is_under k) a b) ss in
     let time : ℕ = sum_by (time_with (is_under k) a b) ss in
     elim h [
-      | inl l ↦ or-left (nat_lt 0 calls) (nat_lt 0 time) (lt-ltb 0 calls l)
-      | inr l ↦ or-right (nat_lt 0 calls) (nat_lt 0 time) (lt-ltb 0 time l)
+      | inl l ↦ or_left (nat_lt 0 calls) (nat_lt 0 time) (lt-ltb 0 calls l)
+      | inr l ↦ or_right (nat_lt 0 calls) (nat_lt 0 time) (lt-ltb 0 time l)
     ]
 
 pub stands-none : (ss : List TrackStream) (a b : ℕ) (k : List ℕ) → path_stands ss a b k ≡ false
@@ -222,7 +190,7 @@ unfolding path_stands
 stands-none ss a b k e =
     let calls : ℕ = sum_by (calls_making (is_under k) a b) ss in
     let time : ℕ = sum_by (time_with (is_under k) a b) ss in
-    let none = or-none (nat_lt 0 calls) (nat_lt 0 time) e in
+    let none = or_parts (nat_lt 0 calls) (nat_lt 0 time) e in
     (omega (arith, ltb-false 0 calls none.0), omega (arith, ltb-false 0 time none.1))
 
 -- a path stands where one that it implies does
@@ -233,14 +201,14 @@ stands-le ss a b k j h e = stands-by ss a b j (elim (stands-cases ss a b k e) [
   | inl l ↦ inl (omega (
     arith,
     l,
-    sum-le (calls_making (is_under k) a b) (calls_making (is_under j) a b)
-        (making-le (is_under k) (is_under j) h a b) ss,
+    sum_by-le-sum_by (calls_making (is_under k) a b) (calls_making (is_under j) a b) ss (making-le (is_under
+        k) (is_under j) h a b),
   ))
   | inr l ↦ inr (omega (
     arith,
     l,
-    sum-le (time_with (is_under k) a b) (time_with (is_under j) a b)
-        (time-le (is_under k) (is_under j) h a b) ss,
+    sum_by-le-sum_by (time_with (is_under k) a b) (time_with (is_under j) a b) ss (time-le (is_under k)
+        (is_under j) h a b),
   ))
 ])
 
@@ -249,10 +217,10 @@ stands-path : (ss : List TrackStream) (a b : ℕ) (k : List ℕ) → k ≢ [] �
 stands-path ss a b k n e =
     elim (stands-cases ss a b k e) [
       | inl l ↦
-          (let s = sum-some (calls_making (is_under k) a b) ss l in
+          (let s = sum_by-some (calls_making (is_under k) a b) ss l in
           let i = calls-some (is_under k) a b s.0 s.2 in path-of ss s.0 k i.0 s.1 n i.1)
       | inr l ↦
-          (let s = sum-some (time_with (is_under k) a b) ss l in
+          (let s = sum_by-some (time_with (is_under k) a b) ss l in
           let i = time-some (is_under k) a b s.0 s.2 in path-of ss s.0 k i.0 s.1 n i.1)
     ]
 
@@ -270,15 +238,15 @@ path-none ss a b k e =
     (omega (
       arith,
       none.0,
-      sum-le (calls_making (is_path k) a b) (calls_making (is_under k) a b)
-          (making-le (is_path k) (is_under k) (path-under k) a b) ss,
+      sum_by-le-sum_by (calls_making (is_path k) a b) (calls_making (is_under k) a b) ss (making-le (is_path
+          k) (is_under k) (path-under k) a b),
     ))
     none.1
     (omega (
       arith,
       none.1,
-      sum-le (time_with (is_path k) a b) (time_with (is_under k) a b)
-          (time-le (is_path k) (is_under k) (path-under k) a b) ss,
+      sum_by-le-sum_by (time_with (is_path k) a b) (time_with (is_under k) a b) ss (time-le (is_path k)
+          (is_under k) (path-under k) a b),
     ))
 
 path-own : (ss : List TrackStream) (a b : ℕ) (k : List ℕ) → (path_numbers ss a b k).path ≡ k
@@ -370,15 +338,10 @@ numbers-times ss a b c k h g = numbers_same k (sum_by (calls_making (is_path k) 
     (sum_by-plus (time_with (is_path k) a c) (time_with (is_path k) a b) (time_with (is_path k) b c)
     (time-plus (is_path k) a b c h g) ss)
 
--- one of two sums is positive where one of the parts is
-any-plus : (x x1 x2 y y1 y2 : ℕ) → x ≡ x1 + x2 → y ≡ y1 + y2
-    → (nat_lt 0 x || nat_lt 0 y) ≡ ((nat_lt 0 x1 || nat_lt 0 y1) || (nat_lt 0 x2 || nat_lt 0 y2))
-any-plus x x1 x2 y y1 y2 e g = grind (arith, nat_tests)
-
 stands-streams : (ss ts : List TrackStream) (a b : ℕ) (k : List ℕ)
     → path_stands (ss ++ ts) a b k ≡ (path_stands ss a b k || path_stands ts a b k)
 unfolding path_stands
-stands-streams ss ts a b k = any-plus (sum_by (calls_making (is_under k) a b) (ss ++ ts))
+stands-streams ss ts a b k = either_pos-plus (sum_by (calls_making (is_under k) a b) (ss ++ ts))
     (sum_by (calls_making (is_under k) a b) ss) (sum_by (calls_making (is_under k) a b) ts)
     (sum_by (time_with (is_under k) a b) (ss ++ ts)) (sum_by (time_with (is_under k) a b) ss)
     (sum_by (time_with (is_under k) a b) ts)
@@ -388,7 +351,7 @@ stands-streams ss ts a b k = any-plus (sum_by (calls_making (is_under k) a b) (s
 stands-times : (ss : List TrackStream) (a b c : ℕ) (k : List ℕ) → a ≤ b → b ≤ c
     → path_stands ss a c k ≡ (path_stands ss a b k || path_stands ss b c k)
 unfolding path_stands
-stands-times ss a b c k h g = any-plus (sum_by (calls_making (is_under k) a c) ss)
+stands-times ss a b c k h g = either_pos-plus (sum_by (calls_making (is_under k) a c) ss)
     (sum_by (calls_making (is_under k) a b) ss) (sum_by (calls_making (is_under k) b c) ss)
     (sum_by (time_with (is_under k) a c) ss) (sum_by (time_with (is_under k) a b) ss)
     (sum_by (time_with (is_under k) b c) ss)

@@ -9,10 +9,11 @@ use Rattle.std.specs.declared.cmp.Ordering.{Ordering}
 use Rattle.std.specs.declared.cmp.Ordering.TheVariants.{Less, Equal, Greater}
 use Rattle.std.proofs.lemmas.Cmp.{ranked, nat_cmp_total, tied_itself, nat_list_cmp_total}
 use Rattle.std.proofs.lemmas.List.{length-take, take-take, take-append-le}
+use Rattle.list_lemmas.proofs.Orderings.{ordering_cases, then-to_Equal, turned, turned_back}
 use Rattle.trace_base.specs.declared.profile.PathRow.{PathRow}
 use Rattle.profile_math.specs.Merging.{pick, merged}
 use Rattle.profile_math.specs.PathSum.{PathNumbers, path_after, numbers_after, path_row_place, path_row_plus}
-use Rattle.profile_math.proofs.Keyed.{by_key, ordering_cases, turned, turned_back, picked}
+use Rattle.profile_math.proofs.Keyed.{by_key, picked}
 
 abbrev pub lex : List ℕ → List ℕ → Ordering
 lex p q = slice_cmp nat_cmp p q
@@ -51,11 +52,6 @@ lex-same : (q s t : List ℕ) → lex (q ++ s) (q ++ t) ≡ lex s t
 lex-same [] s t = refl
 lex-same (x ∷ q) s t = ap (λ o. ordering_then o (lex (q ++ s) (q ++ t))) (tied_itself nat_cmp_total x) ∙
     lex-same q s t
-
-then-equal : (o : Ordering) → ordering_then o Equal ≡ o
-then-equal Less = refl
-then-equal Equal = refl
-then-equal Greater = refl
 
 lex-nil : (q : List ℕ) → lex q [] ≡ Less → ⊥
 lex-nil [] e = cc
@@ -103,7 +99,7 @@ place-is a b p r s f g =
                 ∙ ap (lex (path_after p r))
                 (sym (after-same b p s g) ∙ ap (λ n. take (n - 1) p ++ s.func ∷ []) same)
                 ∙ lex-same (take (r.depth - 1) p) (r.func ∷ []) (s.func ∷ [])
-                ∙ then-equal (nat_cmp r.func s.func)
+                ∙ then-to_Equal (nat_cmp r.func s.func)
                 ∙ sym (ap (λ o. ordering_then o (nat_cmp r.func s.func)) e))
             | inr e ↦ turned lex nat_list_cmp_total (path_after b s) (path_after a r)
                 (deeper-first b a p s r g f (ranked s.depth r.depth Greater (sym e)))

@@ -1,14 +1,17 @@
 -- Rows of call-tree profiles in depth-first order, and the sum of two profiles' rows.
 use Rattle.std.proofs.Common.{◌≡◌, ℕ, ◌+◌, ◌-◌, List, [], ◌∷◌, ◌++◌, length, take, map, refl, ap, sym}
-use Rattle.std.proofs.Common.{subst, ◌∙◌, arith, zero-add, length-append, slice_index, nat_eq}
+use Rattle.std.proofs.Common.{subst, ◌∙◌, arith, zero-add, length-append, nat_eq}
 use Rattle.std.specs.Cmp.Lexicographic.{pointwise, texts_ties}
 use Rattle.std.specs.FinMap.{nat_cmp-IsAntisymmetric, slice_cmp-IsAntisymmetric}
 use Rattle.std.specs.List.{AllByRecursion}
 use Rattle.std.specs.Ordering.{is_eq}
 use Rattle.std.specs.declared.cmp.Ordering.TheVariants.{Less}
 use Rattle.std.proofs.lemmas.Cmp.{nat_list_cmp_total}
-use Rattle.std.proofs.lemmas.List.{get_or_at, length-take}
+use Rattle.std.proofs.lemmas.List.{length-take}
 use Rattle.std.proofs.lemmas.List.Elements.{filter_agree}
+use Rattle.list_lemmas.proofs.Fronts.{cons_head, cons_tail}
+use Rattle.list_lemmas.proofs.Maps.{map_agree}
+use Rattle.list_lemmas.proofs.Positions.{slice_index-last}
 use Rattle.trace_base.specs.declared.profile.PathRow.{PathRow}
 use Rattle.trace_base.specs.declared.profile.PathProfile.{PathProfile}
 use Rattle.profile_math.specs.InOrder.{in_order}
@@ -32,11 +35,6 @@ path_totals = record {
   two = λ x y. rw (zero-add x.calls, zero-add x.incl, zero-add x.excl);
 }
 
-map_agree : {X Y : Type 0} (f g : X → Y) → ((x : X) → f x ≡ g x) → (xs : List X) → map f xs ≡ map g xs
-map_agree f g h [] = refl
-map_agree {X} {Y} f g h (x ∷ xs) = ap (λ y. y ∷ map f xs) (h x) ∙ ap (λ (ys : List Y). g x ∷ ys)
-    (map_agree f g h xs)
-
 pub by_path-is : (ns : List PathNumbers) → by_path ns ≡ sums lex path_of path_total ns
 unfolding by_path
 by_path-is ns = map_agree (λ p. path_total p (numbers_for p ns)) (λ p. path_total p (at lex path_of p ns))
@@ -52,20 +50,14 @@ abbrev Behind : List ℕ → List PathRow → Type 0
 Behind a [] = Unit {0}
 Behind a (r ∷ rs) = lex a (path_after a r) ≡ Less
 
-pub head_of : (k l : ℕ) (ks ls : List ℕ) → k ∷ ks ≡ l ∷ ls → k ≡ l
-head_of k l ks ls e = cc
-
-pub tail_of : (k l : ℕ) (ks ls : List ℕ) → k ∷ ks ≡ l ∷ ls → ks ≡ ls
-tail_of k l ks ls e = cc
-
 chain-from : (a : List ℕ) (rows : List PathRow) → map (λ r. r.depth) rows ≡ map (λ n. length n.path)
     (numbers_after a rows) → Climbs lex path_of (numbers_after a rows) → Behind a rows → Chain a rows
 chain-from a [] d c b = tt
 chain-from a (r ∷ rs) d c b =
-    let depth : r.depth ≡ length (path_after a r) = head_of r.depth (length (path_after a r))
+    let depth : r.depth ≡ length (path_after a r) = cons_head r.depth (length (path_after a r))
     (map (λ s. s.depth) rs)
     (map (λ n. length n.path) (numbers_after (path_after a r) rs)) d in
-    let rest = tail_of r.depth (length (path_after a r)) (map (λ s. s.depth) rs)
+    let rest = cons_tail r.depth (length (path_after a r)) (map (λ s. s.depth) rs)
     (map (λ n. length n.path) (numbers_after (path_after a r) rs)) d in
     let long = length-append (take (r.depth - 1) a) (r.func ∷ []) in
     let front = length-take (r.depth - 1) a in (
@@ -99,9 +91,6 @@ depths-of a [] h = refl
 depths-of a (r ∷ rs) h = ap (λ n. n ∷ map (λ s. s.depth) rs) (sym (length-after a r h.0 h.1))
     ∙ ap (λ (ns : List ℕ). length (path_after a r) ∷ ns) (depths-of (path_after a r) rs h.2)
 
-pub last-path : (q : List ℕ) (f : ℕ) → slice_index (q ++ f ∷ []) (length (q ++ f ∷ []) - 1) ≡ f
-last-path q f = get_or_at q f [] 0 (length (q ++ f ∷ []) - 1) (omega (arith, length-append q (f ∷ [])))
-
 -- the rows are those of their paths
 pub rows-of : (a : List ℕ) (rows : List PathRow) → Deep a rows → rows ≡ map row_of_path (numbers_after a rows)
 rows-of a [] h = refl
@@ -120,7 +109,7 @@ rows-of a (r ∷ rs) h =
       calls = r.calls;
       incl = r.incl;
       excl = r.excl;
-    } in s ∷ rs) (sym (last-path (take (r.depth - 1) a) r.func))
+    } in s ∷ rs) (sym (slice_index-last (take (r.depth - 1) a) r.func))
     ∙ ap (λ (us : List PathRow). row_of_path (record {
       path = path_after a r;
       calls = r.calls;

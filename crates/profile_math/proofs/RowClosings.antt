@@ -6,22 +6,24 @@ use Rattle.std.proofs.Common.{nat_lt, position, refl, ap, sym, subst, ◌∙◌,
 use Rattle.std.specs.List.{AllByRecursion, list_any, position_or_len}
 use Rattle.std.specs.Ordering.{nat_cmp}
 use Rattle.std.specs.declared.cmp.Ordering.{Ordering}
-use Rattle.std.specs.declared.cmp.Ordering.TheVariants.{Less, Equal, Greater}
+use Rattle.std.specs.declared.cmp.Ordering.TheVariants.{Less}
 use Rattle.std.proofs.lemmas.Bool.{cases_Bool, cond-true, cond-false, lt-ltb, le-ltb, ne_eqb, false≢true}
 use Rattle.std.proofs.lemmas.Bool.{eqb-true}
-use Rattle.std.proofs.lemmas.Cmp.{ranked}
 use Rattle.std.proofs.lemmas.List.Elements.{All-from_recursion, recursion_from_All}
 use Rattle.std.proofs.lemmas.List.Folds.{list_any_none, list_any_at}
 use Rattle.std.proofs.lemmas.List.Sums.{fails_before_first}
-use Rattle.trace_base.proofs.Order.{all_mapped, filter_none, filter_every}
+use Rattle.list_lemmas.proofs.Each.{all_mapped}
+use Rattle.list_lemmas.proofs.Filters.{filter_every, filter_none}
+use Rattle.list_lemmas.proofs.Numbers.{eq-from_Equal, gt-from_Greater, lt-from_Less}
+use Rattle.list_lemmas.proofs.Orderings.{ordering_cases}
 use Rattle.trace_base.specs.declared.profile.Profile.{Profile}
 use Rattle.trace_base.specs.declared.profile.Row.{Row}
 use Rattle.profile_math.specs.Closing.{call_row, closed, closed_row, closed_rows, own_rows}
 use Rattle.profile_math.specs.Merging.{pick, merged}
 use Rattle.profile_math.specs.Sum.{row_total, rows_for, row_place, row_plus, RowFits, RisesByFunction}
-use Rattle.profile_math.proofs.Keyed.{Climbs, ordering_cases, climbs-from, sorted-from, merged-climbs}
+use Rattle.profile_math.proofs.Keyed.{Climbs, climbs-from, sorted-from, merged-climbs}
 use Rattle.profile_math.proofs.RowSums.{func_of, row_totals}
-use Rattle.std.proofs.Common.{length-set, get_or-set_same, length-append, ◌^◌, Result, Ok, Err, OnOk, OnErr}
+use Rattle.std.proofs.Common.{length-set, get_or-set_same, length-append, ◌^◌}
 use Rattle.std.proofs.lemmas.Bool.{ltb-false, true≢false}
 use Rattle.std.proofs.lemmas.List.{map-set, set-get_or, get_or-map, get_or_at}
 use Rattle.std.proofs.lemmas.List.Elements.{All-get_or}
@@ -29,36 +31,33 @@ use Rattle.std.proofs.lemmas.List.Quantifiers.{position-Some}
 use Rattle.std.specs.List.Sorted.{IsStrictlySortedBy}
 use Rattle.trace_base.specs.Flat.{stands}
 
-below : (a b : ℕ) → nat_cmp a b ≡ Less → a < b
-below a b e = ranked a b Less (sym e)
-
-same : (a b : ℕ) → nat_cmp a b ≡ Equal → a ≡ b
-same a b e = ranked a b Equal (sym e)
-
-above : (a b : ℕ) → nat_cmp a b ≡ Greater → b < a
-above a b e = ranked a b Greater (sym e)
-
 -- all rows behind the row of the function are above it, and none of them below
 tail-below : (f : ℕ) (x : Row) (xs : List Row) → f ≤ x.func
     → AllByRecursion (λ y. nat_cmp x.func y.func ≡ Less) xs
     → filter (λ r. nat_lt r.func f) xs ≡ []
 tail-below f x xs h all = filter_none (λ r. nat_lt r.func f) xs
     (all_mapped (λ (y : Row). nat_cmp x.func y.func ≡ Less)
-    (λ y. nat_lt y.func f ≡ false) (λ y e. le-ltb y.func f (omega (arith, below x.func y.func e))) xs all)
+    (λ y. nat_lt y.func f ≡ false) (λ y e. le-ltb y.func f (omega (arith, lt-from_Less x.func y.func e))) xs
+    all)
 
 tail-above : (f : ℕ) (x : Row) (xs : List Row) → f ≤ x.func
     → AllByRecursion (λ y. nat_cmp x.func y.func ≡ Less) xs
     → filter (λ r. nat_lt f r.func) xs ≡ xs
 tail-above f x xs h all = filter_every (λ r. nat_lt f r.func) xs
     (all_mapped (λ (y : Row). nat_cmp x.func y.func ≡ Less)
-    (λ y. nat_lt f y.func ≡ true) (λ y e. lt-ltb f y.func (omega (arith, below x.func y.func e))) xs all)
+    (λ y. nat_lt f y.func ≡ true) (λ y e. lt-ltb f y.func (omega (arith, lt-from_Less x.func y.func e))) xs
+    all)
 
 tail-for : (f : ℕ) (x : Row) (xs : List Row) → f ≤ x.func → AllByRecursion (λ y. nat_cmp x.func y.func ≡ Less)
     xs
     → rows_for f xs ≡ []
 tail-for f x xs h all = filter_none (λ r. r.func == f) xs
     (all_mapped (λ (y : Row). nat_cmp x.func y.func ≡ Less)
-    (λ y. (y.func == f) ≡ false) (λ y e. ne_eqb y.func f (λ k. omega (arith, below x.func y.func e, k))) xs
+    (λ y. (y.func == f) ≡ false) (λ y e. ne_eqb y.func f (λ k. omega (
+      arith,
+      lt-from_Less x.func y.func e,
+      k,
+    ))) xs
     all)
 
 -- the rows with the row at an index changed, where that is the row of the function
@@ -80,7 +79,7 @@ set_between f (x ∷ xs) h zero d r l e =
           ∙ ap (λ (ys : List Row). x ∷ ys) (tail-for f x xs (omega (arith, e)) h.0),
     )
 set_between f (x ∷ xs) h (suc at) d r l e =
-    let lower : x.func < f = subst (λ n. x.func < n) e (below x.func (get_or xs at d).func
+    let lower : x.func < f = subst (λ n. x.func < n) e (lt-from_Less x.func (get_or xs at d).func
     (All-from_recursion (λ y. nat_cmp x.func y.func ≡ Less) xs h.0 at d (omega arith))) in
     let rest = set_between f xs h.1 at d r (omega arith) e in
     let front : filter (λ s. nat_lt s.func f) (x ∷ xs) ≡ x ∷ filter (λ s. nat_lt s.func f) xs =
@@ -106,7 +105,7 @@ merged_between [] h call none = (refl, refl)
 merged_between (x ∷ xs) h call none =
     elim (ordering_cases (nat_cmp x.func call.func)) [
       | inl e ↦
-          (let lower = below x.func call.func e in
+          (let lower = lt-from_Less x.func call.func e in
           let front : filter (λ s. nat_lt s.func call.func) (x ∷ xs) ≡ x
           ∷ filter (λ s. nat_lt s.func call.func) xs =
           cond-true (nat_lt x.func call.func) (x ∷ filter (λ s. nat_lt s.func call.func) xs)
@@ -127,9 +126,10 @@ merged_between (x ∷ xs) h call none =
           ))
       | inr g ↦
           elim g [
-            | inl e ↦ absurd (false≢true (sym none.0 ∙ eq-eqb x.func call.func (same x.func call.func e)))
+            | inl e ↦ absurd (false≢true (sym none.0 ∙ eq-eqb x.func call.func (eq-from_Equal x.func call.func
+                e)))
             | inr e ↦
-                (let higher = above x.func call.func e in
+                (let higher = gt-from_Greater x.func call.func e in
                 let front : filter (λ s. nat_lt s.func call.func) (x ∷ xs) ≡ [] =
                 cond-false (nat_lt x.func call.func) (x ∷ filter (λ s. nat_lt s.func call.func) xs)
                 (filter (λ s. nat_lt s.func call.func) xs) (le-ltb x.func call.func (omega arith))
@@ -326,9 +326,3 @@ pub closed_is : (f : ℕ) (begun : Bool) (p : Profile) (rows : List Row)
     → record { bare = 0; rows = rows } ≡ closed f begun p
 unfolding closed
 closed_is f begun p rows e = ap (λ (us : List Row). let s : Profile = record { bare = 0; rows = us } in s) e
-
--- what holds of the list whether it was changed or not
-pub either_way : {T E A : Type 0} (P : A → Type 0) (r : Result T E) (new a b : A) → OnOk r (new ≡ a)
-    → OnErr r (new ≡ b) → P a → P b → P new
-either_way P (Ok x) new a b h g pa pb = subst P (sym h) pa
-either_way P (Err e) new a b h g pa pb = subst P (sym g) pb

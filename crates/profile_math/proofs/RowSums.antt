@@ -1,11 +1,12 @@
 -- Rows of flat profiles in the order of their functions.
-use Rattle.std.proofs.Common.{◌≡◌, ℕ, ◌+◌, ◌==◌, List, [], ◌∷◌, ◌++◌, map, refl, ap, sym, ◌∙◌}
+use Rattle.std.proofs.Common.{◌≡◌, ℕ, ◌+◌, ◌==◌, List, ◌++◌, refl, ap, sym, ◌∙◌}
 use Rattle.std.proofs.Common.{zero-add}
 use Rattle.std.specs.Cmp.{unsigned_ties}
 use Rattle.std.specs.FinMap.{nat_cmp-IsAntisymmetric}
 use Rattle.std.specs.Ordering.{nat_cmp, is_eq}
 use Rattle.std.proofs.lemmas.Cmp.{nat_cmp_total}
 use Rattle.std.proofs.lemmas.List.Elements.{filter_agree}
+use Rattle.list_lemmas.proofs.Maps.{map_agree}
 use Rattle.trace_base.specs.declared.profile.Row.{Row}
 use Rattle.trace_base.specs.declared.profile.Profile.{Profile}
 use Rattle.profile_math.specs.Merging.{merged}
@@ -32,11 +33,6 @@ row_totals = record {
 pub rows_for-at : (f : ℕ) (rows : List Row) → rows_for f rows ≡ at nat_cmp func_of f rows
 rows_for-at f rows = filter_agree (λ r. r.func == f) (λ r. is_eq (nat_cmp r.func f))
     (λ r. unsigned_ties r.func f) rows
-
-map_agree : {X Y : Type 0} (f g : X → Y) → ((x : X) → f x ≡ g x) → (xs : List X) → map f xs ≡ map g xs
-map_agree f g h [] = refl
-map_agree {X} {Y} f g h (x ∷ xs) = ap (λ y. y ∷ map f xs) (h x) ∙ ap (λ (ys : List Y). g x ∷ ys)
-    (map_agree f g h xs)
 
 pub by_function-is : (rows : List Row) → by_function rows ≡ sums nat_cmp func_of row_total rows
 unfolding by_function

@@ -10,12 +10,14 @@ use Rattle.std.specs.Option.{option_map_or}
 use Rattle.std.proofs.lemmas.Bool.Decides.{nat_tests}
 use Rattle.std.proofs.lemmas.List.Sums.{sum_by-cons}
 use Rattle.std.proofs.lemmas.Option.{slice_get-get_or}
+use Rattle.list_lemmas.proofs.Each.{all_by_place, all_push, all_take}
+use Rattle.list_lemmas.proofs.Sums.{sum_by-filter}
 use Rattle.trace_base.specs.Flat.{clip, time_with, is_bare, is_innermost_in}
 use Rattle.trace_base.specs.Stream.{piece, pieces, stack_step, stack_after, IsLegal}
 use Rattle.trace_base.specs.declared.stream.Event.{Event}
 use Rattle.trace_base.specs.declared.stream.Event.TheVariants.{Enter, Leave}
 use Rattle.trace_base.specs.declared.stream.TrackStream.{TrackStream}
-use Rattle.profile_math.proofs.Times.{sum_by-filter, AllFunctions, stacks-all}
+use Rattle.profile_math.proofs.Times.{AllFunctions, stacks-all}
 
 -- a property that is one of two others, which exclude each other, wherever the stream's call stack is
 pub time-split : (has h1 h2 : List ℕ → Bool) (a b : ℕ) (s : TrackStream)
@@ -132,33 +134,16 @@ upto-time a b s (suc n) =
     subst (λ m. time_with (last_upto m) a b s ≡ time_with (last_upto 0) a b s + (own_time a b s n
     + time_with (is_innermost_in (n + 1)) a b s)) (add-one n) (omega (arith, step, upto-time a b s n))
 
--- functions are counted from 1
-all-gets : {X : Type 0} (P : X → Type 0) (xs : List X) → ((i : ℕ) (x : X) → slice_get xs i ≡ Some x → P x)
-    → AllByRecursion P xs
-all-gets P [] h = tt
-all-gets P (x ∷ xs) h = (h 0 x refl, all-gets P xs (λ i y e. h (suc i) y e))
-
 abbrev positive : Event → Type 0
 positive (Enter f t) = 1 ≤ f
 positive (Leave t) = Unit {0}
 
 legal-positive : (s : TrackStream) → IsLegal s → AllByRecursion positive s.events
-legal-positive s legal = all-gets positive s.events one
+legal-positive s legal = all_by_place positive s.events one
   where
     one : (i : ℕ) (e : Event) → slice_get s.events i ≡ Some e → positive e
     one i (Enter f t) e = (legal.functions i f t e).0
     one i (Leave t) e = tt
-
-all_push : {X : Type 0} (P : X → Type 0) (xs : List X) (x : X) → AllByRecursion P xs → P x
-    → AllByRecursion P (xs ++ x ∷ [])
-all_push P [] x h p = (p, tt)
-all_push P (y ∷ ys) x h p = (h.0, all_push P ys x h.1 p)
-
-all_take : {X : Type 0} (P : X → Type 0) (n : ℕ) (xs : List X) → AllByRecursion P xs
-    → AllByRecursion P (take n xs)
-all_take P zero xs h = tt
-all_take P (suc n) [] h = tt
-all_take P (suc n) (x ∷ xs) h = (h.0, all_take P n xs h.1)
 
 stack-positive : (es : List Event) (q : List ℕ) → AllByRecursion (λ f. 1 ≤ f) q → AllByRecursion positive es
     → AllByRecursion (λ f. 1 ≤ f) (fold stack_step q es)

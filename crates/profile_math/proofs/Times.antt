@@ -1,15 +1,17 @@
 -- Times and calls of streams: of several streams, of two intervals one after the other, and of a property
 -- that another implies.
-use Rattle.std.proofs.Common.{◌≡◌, ℕ, ◌+◌, ◌-◌, ◌<◌, ◌≤◌, ◌==◌, zero, suc, Bool, true, false, cond, ◌&&◌}
+use Rattle.std.proofs.Common.{◌≡◌, ℕ, ◌+◌, ◌-◌, ◌<◌, ◌≤◌, ◌==◌, Bool, true, false, cond, ◌&&◌}
 use Rattle.std.proofs.Common.{◌||◌, List, [], ◌∷◌}
 use Rattle.std.proofs.Common.{◌++◌, length, take, map, filter, fold, sum_by, count_by, max, nat_lt}
 use Rattle.std.proofs.Common.{nat_le, refl, ap}
 use Rattle.std.proofs.Common.{sym, ◌∙◌, inl, inr, arith}
 use Rattle.std.specs.List.{AllByRecursion, list_any, range_with_len}
 use Rattle.std.proofs.lemmas.Bool.{cases_Bool, cond-true, cond-false, true≢false, ne_eqb}
-use Rattle.std.proofs.lemmas.Bool.Decides.{nat_tests}
-use Rattle.std.proofs.lemmas.List.Sums.{sum_by-cons, fold-append, sum_by-le-sum_by}
-use Rattle.trace_base.proofs.Order.{all_mapped, filter_none}
+use Rattle.std.proofs.lemmas.List.Sums.{sum_by-cons, fold-append}
+use Rattle.list_lemmas.proofs.Each.{all_mapped, all_push, all_take}
+use Rattle.list_lemmas.proofs.Filters.{filter_none}
+use Rattle.list_lemmas.proofs.Numbers.{within-plus}
+use Rattle.list_lemmas.proofs.Sums.{sum_by-none, sum_by-plus}
 use Rattle.trace_base.specs.Flat.{clip, enters_in, time_with, calls_in, function_of}
 use Rattle.trace_base.specs.Flat.{greatest_function}
 use Rattle.trace_base.specs.Stream.{Piece, piece, pieces, stack_step, stack_after}
@@ -21,44 +23,6 @@ use Rattle.trace_base.specs.declared.stream.Event.{Event}
 use Rattle.trace_base.specs.declared.stream.Event.TheVariants.{Enter, Leave}
 use Rattle.trace_base.specs.declared.stream.TrackStream.{TrackStream}
 
--- sums of what is added at each item
-pub sum_by-plus : {X : Type 0} (f g h : X → ℕ) → ((x : X) → f x ≡ g x + h x) → (xs : List X)
-    → sum_by f xs ≡ sum_by g xs + sum_by h xs
-sum_by-plus f g h e [] = refl
-sum_by-plus f g h e (x ∷ xs) = omega (
-  arith,
-  sum_by-cons f x xs,
-  sum_by-cons g x xs,
-  sum_by-cons h x xs,
-  e x,
-  sum_by-plus f g h e xs,
-)
-
-pub sum_by-same : {X : Type 0} (f g : X → ℕ) → ((x : X) → f x ≡ g x) → (xs : List X)
-    → sum_by f xs ≡ sum_by g xs
-sum_by-same f g e [] = refl
-sum_by-same f g e (x ∷ xs) = omega (arith, sum_by-cons f x xs, sum_by-cons g x xs, e x, sum_by-same f g e xs)
-
-pub sum_by-filter : {X : Type 0} (f : X → ℕ) (p : X → Bool) (xs : List X) → sum_by f (filter p xs) ≡ sum_by
-    (λ x. cond (p x) (f x) 0) xs
-sum_by-filter f p [] = refl
-sum_by-filter f p (x ∷ xs) =
-    elim (cases_Bool (p x)) [
-      | inl e ↦ ap (sum_by f) (cond-true (p x) (x ∷ filter p xs) (filter p xs) e) ∙ omega (
-        arith,
-        sum_by-cons f x (filter p xs),
-        sum_by-cons (λ y. cond (p y) (f y) 0) x xs,
-        cond-true (p x) (f x) 0 e,
-        sum_by-filter f p xs,
-      )
-      | inr e ↦ ap (sum_by f) (cond-false (p x) (x ∷ filter p xs) (filter p xs) e) ∙ omega (
-        arith,
-        sum_by-cons (λ y. cond (p y) (f y) 0) x xs,
-        cond-false (p x) (f x) 0 e,
-        sum_by-filter f p xs,
-      )
-    ]
-
 -- an interval in two parts
 clip-plus : (a b c : ℕ) → a ≤ b → b ≤ c → (p : Piece) → clip a c p ≡ clip a b p + clip b c p
 clip-plus a b c h g p = omega arith
@@ -68,11 +32,6 @@ pub time-plus : (has : List ℕ → Bool) (a b c : ℕ) → a ≤ b → b ≤ c 
 unfolding time_with
 time-plus has a b c h g s = sum_by-plus (clip a c) (clip a b) (clip b c) (clip-plus a b c h g)
     (filter (λ p. has p.stack) (pieces s))
-
-pub within-plus : (a b c t : ℕ) → a ≤ b → b ≤ c → cond (nat_le a t && nat_lt t c) 1 0 ≡ cond
-    (nat_le a t && nat_lt t b) 1 0
-    + cond (nat_le b t && nat_lt t c) 1 0
-within-plus a b c t h g = grind (arith, nat_tests)
 
 enters-plus : (f a b c : ℕ) → a ≤ b → b ≤ c → (e : Event) → cond (enters_in f a c e) 1 0 ≡ cond
     (enters_in f a b e) 1 0
@@ -191,17 +150,6 @@ greatest-append ss ts =
       omega (arith, split, streams-monotone ts 0 (greatest_from 0 ss) (omega arith)),
     )
 
-all_push : {X : Type 0} (P : X → Type 0) (xs : List X) (x : X) → AllByRecursion P xs → P x
-    → AllByRecursion P (xs ++ x ∷ [])
-all_push P [] x h p = (p, tt)
-all_push P (y ∷ ys) x h p = (h.0, all_push P ys x h.1 p)
-
-all_take : {X : Type 0} (P : X → Type 0) (n : ℕ) (xs : List X) → AllByRecursion P xs
-    → AllByRecursion P (take n xs)
-all_take P zero xs h = tt
-all_take P (suc n) [] h = tt
-all_take P (suc n) (x ∷ xs) h = (h.0, all_take P n xs h.1)
-
 -- the functions of a call stack are those of the events
 stack-all : (n : ℕ) (es : List Event) (stack : List ℕ) → AllByRecursion (λ f. f ≤ n) stack
     → AllByRecursion (λ e. function_of e ≤ n) es → AllByRecursion (λ f. f ≤ n) (fold stack_step stack es)
@@ -252,21 +200,16 @@ calls-none f n a b l (Leave t ∷ es) h = omega (
   calls-none f n a b l es h.1,
 )
 
-sum-none : {X : Type 0} (f : X → ℕ) (P : X → Type 0) → ((x : X) → P x → f x ≡ 0) → (xs : List X)
-    → AllByRecursion P xs → sum_by f xs ≡ 0
-sum-none f P z [] h = refl
-sum-none f P z (x ∷ xs) h = omega (arith, sum_by-cons f x xs, z x h.0, sum-none f P z xs h.1)
-
 -- a function above the greatest one has no calls and no time
 pub past-calls : (ss : List TrackStream) (f a b : ℕ) → greatest_function ss < f
     → sum_by (calls_in f a b) ss ≡ 0
 unfolding calls_in
-past-calls ss f a b l = sum-none (calls_in f a b) (AllFunctions (greatest_function ss))
+past-calls ss f a b l = sum_by-none (calls_in f a b) (AllFunctions (greatest_function ss))
     (λ s h. calls-none f (greatest_function ss) a b l s.events h) ss (greatest-all ss)
 
 pub past-time : (ss : List TrackStream) (f a b : ℕ) → greatest_function ss < f
     → sum_by (time_with (is_open_in f) a b) ss ≡ 0
-past-time ss f a b l = sum-none (time_with (is_open_in f) a b) (AllFunctions (greatest_function ss))
+past-time ss f a b l = sum_by-none (time_with (is_open_in f) a b) (AllFunctions (greatest_function ss))
     (λ s h. time-none (is_open_in f) a b s
     (λ i. none_open f (greatest_function ss) l (stack_after (take i s.events))
     (stacks-all (greatest_function ss) i s h))) ss (greatest-all ss)
@@ -278,6 +221,3 @@ innermost-open f (g ∷ gs) e =
     let found = slice_get-get_or (g ∷ gs) (length (g ∷ gs) - 1) 0 (omega arith) in
     list_any_at (λ k. k == f) (g ∷ gs) (length (g ∷ gs) - 1) 0 (omega arith)
     (sym (ap (λ o. option_map_or (λ k. k == f) o false) found) ∙ e)
-
-pub sum-le : {X : Type 0} (f g : X → ℕ) → ((x : X) → f x ≤ g x) → (xs : List X) → sum_by f xs ≤ sum_by g xs
-sum-le f g h xs = sum_by-le-sum_by f g xs h

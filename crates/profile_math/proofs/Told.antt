@@ -11,63 +11,21 @@ use Rattle.std.proofs.lemmas.Bool.{cases_Bool, true≢false}
 use Rattle.std.proofs.lemmas.Cmp.{nat_cmp_total, nat_list_cmp_total, ranked, tied_itself}
 use Rattle.std.proofs.lemmas.List.{nil_from_length}
 use Rattle.std.proofs.lemmas.List.Elements.{filter_agree, filter-append}
-use Rattle.trace_base.proofs.InOrder.{has_cons, has_here, has_there}
-use Rattle.trace_base.proofs.Order.{all_filter, filter_none}
+use Rattle.std.proofs.lemmas.Simd.{map-map}
+use Rattle.list_lemmas.proofs.Each.{all_filter, all_from, all_has}
+use Rattle.list_lemmas.proofs.Filters.{filter-map, filter_filter_none, filter_filter_same, filter_none}
+use Rattle.list_lemmas.proofs.Fronts.{length_behind, nil_or}
+use Rattle.list_lemmas.proofs.Members.{filter-has, filter-keeps, has_cons, has_here, has_there}
+use Rattle.list_lemmas.proofs.Orderings.{Equal-from_is_eq, ordering_cases, turned, turned_back}
 use Rattle.trace_base.specs.declared.profile.PathRow.{PathRow}
 use Rattle.profile_math.specs.PathSum.{PathNumbers, numbers_after, numbers_of, path_after, path_total}
 use Rattle.profile_math.specs.PathSum.{by_path}
 use Rattle.profile_math.specs.PathSum.{row_of_path, IsDepthFirst}
-use Rattle.profile_math.proofs.Keyed.{at, whole, Climbs, at-yes, at-no, none-tied, equal-from, climbs-filter}
-use Rattle.profile_math.proofs.Keyed.{climbs-map, filter-map, filter_filter_same, filter_filter_none}
-use Rattle.profile_math.proofs.Keyed.{ordering_cases, sorted-from, sums-is, turned, turned_back}
+use Rattle.profile_math.proofs.Keyed.{at, whole, Climbs, at-yes, at-no, none-tied, climbs-filter}
+use Rattle.profile_math.proofs.Keyed.{climbs-map}
+use Rattle.profile_math.proofs.Keyed.{sorted-from, sums-is}
 use Rattle.profile_math.proofs.PathMerging.{lex, path_of, numbers_plus}
 use Rattle.profile_math.proofs.PathSums.{path_totals, by_path-is}
-
--- ---- what a filtered list has
-
-pub filter-has : {X : Type 0} (p : X → Bool) (xs : List X) (x : X) → Contains (filter p xs) x
-    → Contains xs x × (p x ≡ true)
-filter-has p [] x c = absurd (omega (arith, c.1))
-filter-has {X} p (y ∷ ys) x c = by (p y) refl (filter-has p ys x) c
-  where
-    by : (b : Bool) → p y ≡ b → (Contains (filter p ys) x → Contains ys x × (p x ≡ true))
-        → Contains (cond b (y ∷ filter p ys) (filter p ys)) x → Contains (y ∷ ys) x × (p x ≡ true)
-    by true e rest h = elim (has_cons y x (filter p ys) h) [
-      | inl same ↦ (
-        subst (λ (z : X). Contains (y ∷ ys) z) same (has_here y ys),
-        subst (λ (z : X). p z ≡ true) same e,
-      )
-      | inr later ↦ (has_there y x ys (rest later).0, (rest later).1)
-    ]
-    by false e rest h = (has_there y x ys (rest h).0, (rest h).1)
-
-pub filter-keeps : {X : Type 0} (p : X → Bool) (xs : List X) (x : X) → Contains xs x → p x ≡ true
-    → Contains (filter p xs) x
-filter-keeps p [] x c t = absurd (omega (arith, c.1))
-filter-keeps {X} p (y ∷ ys) x c t = by (p y) refl (λ h. filter-keeps p ys x h t) c
-  where
-    by : (b : Bool) → p y ≡ b → (Contains ys x → Contains (filter p ys) x) → Contains (y ∷ ys) x
-        → Contains (cond b (y ∷ filter p ys) (filter p ys)) x
-    by true e rest h = elim (has_cons y x ys h) [
-      | inl same ↦ subst (λ (z : X). Contains (y ∷ filter p ys) z) same (has_here y (filter p ys))
-      | inr later ↦ has_there y x (filter p ys) (rest later)
-    ]
-    by false e rest h = elim (has_cons y x ys h) [
-      | inl same ↦ absurd (true≢false (sym t ∙ ap p (sym same) ∙ e))
-      | inr later ↦ rest later
-    ]
-
-pub all_from : {X : Type 0} (P : X → Type 0) (xs : List X) → ((x : X) → Contains xs x → P x)
-    → AllByRecursion P xs
-all_from P [] h = tt
-all_from P (x ∷ xs) h = (h x (has_here x xs), all_from P xs (λ y c. h y (has_there x y xs c)))
-
-has_all : {X : Type 0} (P : X → Type 0) (xs : List X) (x : X) → AllByRecursion P xs → Contains xs x → P x
-has_all P [] x all c = absurd (omega (arith, c.1))
-has_all P (y ∷ ys) x all c = elim (has_cons y x ys c) [
-  | inl e ↦ subst P e all.0
-  | inr later ↦ has_all P ys x all.1 later
-]
 
 -- ---- paths
 
@@ -75,7 +33,7 @@ abbrev pub parent : List ℕ → List ℕ
 parent path = take (length path - 1) path
 
 pub same_path : (p q : List ℕ) → is_eq (lex p q) ≡ true → p ≡ q
-same_path p q e = path_totals.same p q (equal-from (lex p q) e)
+same_path p q e = path_totals.same p q (Equal-from_is_eq (lex p q) e)
 
 not_itself : (p : List ℕ) → lex p p ≡ Less → ⊥
 not_itself p e = let tie : lex p p ≡ Equal = tied_itself nat_list_cmp_total p in cc
@@ -84,10 +42,6 @@ nil-less : (q : List ℕ) → q ≢ [] → lex [] q ≡ Less
 nil-less [] n = absurd (n refl)
 nil-less (x ∷ q) n = refl
 
-pub nil_or : (q : List ℕ) → (q ≡ []) ⊎ (q ≢ [])
-nil_or [] = inl refl
-nil_or (x ∷ q) = inr (λ e. cc)
-
 -- a path comes behind a front of it
 front-less : (n : ℕ) (q : List ℕ) → length q ≡ suc n → lex (take n q) q ≡ Less
 front-less n [] e = absurd (omega arith)
@@ -95,12 +49,8 @@ front-less zero (x ∷ q) e = refl
 front-less (suc n) (x ∷ q) e = ap (λ o. ordering_then o (lex (take n q) q)) (tied_itself nat_cmp_total x)
     ∙ front-less n q (omega arith)
 
-some-length : (q : List ℕ) → q ≢ [] → length q ≡ suc (length q - 1)
-some-length [] n = absurd (n refl)
-some-length (x ∷ q) n = omega arith
-
 parent-less : (q : List ℕ) → q ≢ [] → lex (parent q) q ≡ Less
-parent-less q n = front-less (length q - 1) q (some-length q n)
+parent-less q n = front-less (length q - 1) q (length_behind q n)
 
 -- a path behind another one that doesn't come before its parent goes on from the parent
 path-again : (m : ℕ) (p q : List ℕ) → length q ≡ suc m → lex p q ≡ Less → (lex (take m q) p ≡ Greater → ⊥)
@@ -141,7 +91,7 @@ next-numbers num own p (k ∷ ks) h =
     let rs : List PathRow = map row_of_path (map num ks) in
     let is : path_after p r ≡ k =
     ap (λ (q : List ℕ). take (length q - 1) p ++ slice_index q (length q - 1) ∷ []) (own k)
-    ∙ path-again (length k - 1) p k (some-length k h.0) h.1 h.2 in
+    ∙ path-again (length k - 1) p k (length_behind k h.0) h.1 h.2 in
     ap (λ (q : List ℕ). let n : PathNumbers = record {
       path = q;
       calls = r.calls;
@@ -177,7 +127,7 @@ closed-next (k ∷ ks) p up above some fronts =
     first mine less (inr c) e = elim (has_cons k (parent k) ks c) [
       | inl same ↦ not_itself k (subst (λ (q : List ℕ). lex q k ≡ Less) (sym same) less)
       | inr behind ↦ not_itself k (nat_list_cmp_total.trans k (parent k) k
-          (has_all (λ j. lex k j ≡ Less) ks (parent k) up.0 behind) less)
+          (all_has (λ j. lex k j ≡ Less) ks (parent k) up.0 behind) less)
     ]
 
     later : (j : List ℕ) → (lex (parent j) p ≡ Greater → ⊥) ⊎ Contains (k ∷ ks) (parent j)
@@ -227,7 +177,7 @@ once k (j ∷ js) up c =
     elim (cases_Bool (is_eq (lex j k))) [
       | inl e ↦ at-yes lex (λ i. i) k j js e
           ∙ ap (λ (us : List (List ℕ)). j ∷ us)
-          (none-tied lex nat_list_cmp_total (λ i. i) j k js (equal-from (lex j k) e) up.0)
+          (none-tied lex nat_list_cmp_total (λ i. i) j k js (Equal-from_is_eq (lex j k) e) up.0)
           ∙ ap (λ (i : List ℕ). i ∷ []) (same_path j k e)
       | inr e ↦ at-no lex (λ i. i) k j js e
           ∙ once k js up.1 (elim (has_cons j k js c) [
@@ -294,11 +244,6 @@ told-numbers num has ks t = next-numbers num t.own [] (filter has ks)
         let less : lex (parent k) [] ≡ Equal = ap (λ (q : List ℕ). lex q []) none in cc))
     fronts k e (inr more) = inr (filter-keeps has ks (parent k) (t.known (parent k) more (t.front k e))
         (t.front k e))
-
-pub map-map : {X Y Z : Type 0} (g : Y → Z) (f : X → Y) (xs : List X)
-    → map g (map f xs) ≡ map (λ x. g (f x)) xs
-map-map g f [] = refl
-map-map {X} {Y} {Z} g f (x ∷ xs) = ap (λ (zs : List Z). g (f x) ∷ zs) (map-map g f xs)
 
 pub told-depth-first : (num : List ℕ → PathNumbers) (has : List ℕ → Bool) (ks : List (List ℕ))
     → Tells num has ks → IsDepthFirst (map row_of_path (told num has ks))

@@ -7,8 +7,6 @@ mod laws;
 mod merging;
 mod paths;
 mod sums;
-#[cfg(test)]
-mod tests;
 
 pub use laws::{
     flat_in_order, flat_of_call, flat_of_intervals, flat_of_streams, paths_in_order, paths_of_call,

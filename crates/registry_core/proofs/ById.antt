@@ -1,34 +1,23 @@
 -- Traces that a map keeps by their ids.
 use Rattle.std.proofs.Common.{◌≡◌, ℕ, ◌<◌, Bool, true, false, not, ◌&&◌, cond, eqb, List, [], ◌∷◌, ◌++◌}
-use Rattle.std.proofs.Common.{map, filter, None, Some, refl, ap, ap₂, ◌∙◌, sym, subst, arith, nat_cmp}
+use Rattle.std.proofs.Common.{map, filter, None, Some, refl, ap, ap₂, ◌∙◌, sym, subst, nat_cmp}
 use Rattle.std.proofs.Common.{inl, inr}
 use Rattle.std.specs.BTreeMap.{BTreeMap, WritesThrough, get, insert_entry, is_at}
 use Rattle.std.specs.List.{All, find}
 use Rattle.std.specs.List.Sorted.{IsStrictlySortedBy}
 use Rattle.std.specs.Map.{keys_of, values_of, lookup, remove_entry, set_value}
 use Rattle.std.specs.Cmp.{nat_cmp_is}
-use Rattle.std.specs.Ordering.{is_eq}
-use Rattle.std.specs.declared.cmp.Ordering.TheVariants.{Less, Equal, Greater}
-use Rattle.std.proofs.lemmas.Bool.{cases_Bool, cases_order, cond-false, cond-true}
-use Rattle.std.proofs.lemmas.Bool.{eq-eqb, ne_eqb}
+use Rattle.std.specs.declared.cmp.Ordering.TheVariants.{Greater}
+use Rattle.std.proofs.lemmas.Bool.{cases_Bool, cond-false, cond-true}
 use Rattle.std.proofs.lemmas.List.Elements.{All-head, All-tail}
 use Rattle.std.proofs.lemmas.Map.Entries.{option_filter}
 use Rattle.std.proofs.lemmas.Map.Keys.{sorted_tail}
+use Rattle.list_lemmas.proofs.Numbers.{is_eq-nat_cmp}
 use Rattle.registry_core.specs.Registry.{has_id, kept_trace, with_changed, without_trace}
 use Rattle.registry_core.specs.Trace.{Trace}
 use Rattle.registry_core.proofs.KeptTraces.{IsRising, find-has_id, ids_of, none_behind, with_changed-none}
 use Rattle.registry_core.proofs.KeptTraces.{without_trace-none}
 use Rattle.registry_core.proofs.LawTraces.{KeepsId}
-
--- ---- numbers as keys
-
--- a query for a number finds that number
-pub is_at_number : (id k : ℕ) → is_eq (nat_cmp id k) ≡ eqb k id
-is_at_number id k = elim (cases_order id k) [
-  | inl same ↦ ap is_eq (sym (nat_cmp_is id k Equal same)) ∙ sym (eq-eqb k id (sym same))
-  | inr (inl less) ↦ ap is_eq (sym (nat_cmp_is id k Less less)) ∙ sym (ne_eqb k id (omega arith))
-  | inr (inr more) ↦ ap is_eq (sym (nat_cmp_is id k Greater more)) ∙ sym (ne_eqb k id (omega arith))
-]
 
 -- ---- a list of traces as entries
 
@@ -89,7 +78,7 @@ lookup_of_traces : (id : ℕ) (traces : List Trace)
     → lookup (is_at (nat_cmp id)) (map entry_of traces) ≡ kept_trace traces id
 lookup_of_traces id [] = refl
 lookup_of_traces id (t ∷ traces) =
-    ap₂ (λ b rest. cond b (Some t) rest) (is_at_number id t.id) (lookup_of_traces id traces)
+    ap₂ (λ b rest. cond b (Some t) rest) (is_eq-nat_cmp id t.id) (lookup_of_traces id traces)
 
 -- the map finds the trace of an id
 pub lookup_kept : {es : List (ℕ × Trace)} {traces : List Trace} (id : ℕ) → AreKept es traces
@@ -108,11 +97,11 @@ set_in_traces id f stays (x ∷ traces) t rising found = elim (cases_Bool (eqb x
       let here = rw hit at found in
       let same : x ≡ t = cc in
       let behind = with_changed-none id f traces (none_behind id x traces rising hit) in
-      rw (is_at_number, hit) (ap₂ (λ (e : ℕ × Trace) ts. e ∷ map entry_of ts)
+      rw (is_eq-nat_cmp, hit) (ap₂ (λ (e : ℕ × Trace) ts. e ∷ map entry_of ts)
       (ap₂ (λ n v. (n, v)) (sym (stays x)) (ap f (sym same))) (sym behind))
   | inr miss ↦
       let later = rw miss at found in
-      rw (is_at_number, miss) (ap (λ es. entry_of x ∷ es) (set_in_traces id f stays traces t
+      rw (is_eq-nat_cmp, miss) (ap (λ es. entry_of x ∷ es) (set_in_traces id f stays traces t
       (sorted_tail nat_cmp x.id (ids_of traces) rising) later))
 ]
 
@@ -135,9 +124,9 @@ remove_in_traces : (id : ℕ) (traces : List Trace) → IsRising traces
     → remove_entry (is_at (nat_cmp id)) (map entry_of traces) ≡ map entry_of (without_trace id traces)
 remove_in_traces id [] rising = refl
 remove_in_traces id (t ∷ traces) rising = elim (cases_Bool (eqb t.id id)) [
-  | inl hit ↦ rw (is_at_number, hit)
+  | inl hit ↦ rw (is_eq-nat_cmp, hit)
       (ap (map entry_of) (sym (without_trace-none id traces (none_behind id t traces rising hit))))
-  | inr miss ↦ rw (is_at_number, miss) (ap (λ es. entry_of t ∷ es)
+  | inr miss ↦ rw (is_eq-nat_cmp, miss) (ap (λ es. entry_of t ∷ es)
       (remove_in_traces id traces (sorted_tail nat_cmp t.id (ids_of traces) rising)))
 ]
 

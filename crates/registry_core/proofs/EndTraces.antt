@@ -3,11 +3,12 @@ use Rattle.std.proofs.Common.{◌≡◌, ℕ, Bool, true, false, ◌&&◌, not, 
 use Rattle.std.proofs.Common.{option_map, is_some, refl, sym, ap, ap₂, ◌∙◌, subst, inl, inr, arith}
 use Rattle.std.proofs.Math.Bool.{and-false, and-true, and_assoc}
 use Rattle.std.proofs.lemmas.Bool.Decides.{eqb_tells, nat_tests}
+use Rattle.list_lemmas.proofs.Found.{find-filter, find-map, find-map_same, find_agree, found_passes}
+use Rattle.list_lemmas.proofs.Found.{is_some-find_and}
+use Rattle.list_lemmas.proofs.Options.{is_some-map, option_map_found}
 use Rattle.registry_core.specs.Registry.{has_id, is_open_trace, kept_trace, open_trace, with_changed}
 use Rattle.registry_core.specs.Registry.{without_trace}
 use Rattle.registry_core.specs.Trace.{Trace, kept_for_users}
-use Rattle.registry_core.proofs.FoundItems.{find-filter, find-map, find-map_same, find_agree, found_passes}
-use Rattle.registry_core.proofs.FoundItems.{is_some-find_and, is_some-map, map_found}
 use Rattle.registry_core.proofs.KeepsMore.{SameTracks}
 use Rattle.registry_core.proofs.KeptTraces.{IsRising, is_open_as, kept_too}
 
@@ -76,7 +77,7 @@ ends-kept id traces = record {
   traces = λ x u kept.
       let found : kept_trace (map ended traces) x ≡ option_map ended (kept_trace traces x) =
       find-map_same (has_id x) ended (λ t. ap (λ n. eqb n x) (kept_same (has_id id t) t).id) traces in
-      let one = map_found ended (kept_trace traces x) u (sym found ∙ kept) in
+      let one = option_map_found ended (kept_trace traces x) u (sym found ∙ kept) in
       let t = one.0 in
       let this : has_id x t ≡ true = found_passes (has_id x) traces t one.1 in (
         t,

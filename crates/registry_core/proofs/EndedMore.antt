@@ -1,20 +1,22 @@
 -- What a history tells after an entry that ends a trace.
-use Rattle.std.proofs.Common.{◌≡◌, ℕ, ◌+◌, ◌<◌, ◌≤◌, Bool, true, false, ◌&&◌, ◌||◌, not, cond, eqb, List}
-use Rattle.std.proofs.Common.{[], ◌∷◌, ◌++◌, length, filter, sum_by, None, refl, sym, ap, ap₂, ◌∙◌, inl, inr}
-use Rattle.std.proofs.Common.{arith, append-nil, eq-eqb}
+use Rattle.std.proofs.Common.{◌≡◌, ℕ, ◌+◌, false, ◌&&◌, ◌||◌, not, eqb, List}
+use Rattle.std.proofs.Common.{[], ◌∷◌, ◌++◌, length, filter, sum_by, None, refl, sym, ap, ap₂, ◌∙◌}
+use Rattle.std.proofs.Common.{append-nil, eq-eqb}
 use Rattle.std.specs.List.{list_any, range_with_len}
 use Rattle.std.specs.Option.{option_to_list}
 use Rattle.std.proofs.Math.Bool.{and-false, and-true}
 use Rattle.std.proofs.Math.Path.{fun_ext}
-use Rattle.std.proofs.lemmas.List.Elements.{filter_agree}
-use Rattle.std.proofs.lemmas.Bool.Decides.{eqb_tells}
-use Rattle.node_key.specs.History.{Closed, Dropped, EntryOf, ends, is_loading, is_open, opened_id, opened_ids}
-use Rattle.node_key.specs.History.{promised, seals}
-use Rattle.node_key.proofs.HistoryMore.{SameData, any_more, data_closed, data_dropped, opened_more, or_false}
-use Rattle.node_key.proofs.HistoryMore.{subject}
-use Rattle.node_key.proofs.Ranges.{AgreeBut, filters_around}
+use mathlib.Core.Bool.{or-false}
+use Rattle.list_lemmas.proofs.AroundOne.{AgreeBut, sum_without}
+use Rattle.list_lemmas.proofs.Booleans.{and_not-or, and_swap}
+use Rattle.list_lemmas.proofs.Found.{any_more}
+use Rattle.hall_history.specs.History.{Closed, Dropped, EntryOf, ends, is_loading, is_open, opened_id}
+use Rattle.hall_history.specs.History.{opened_ids, promised, seals}
+use Rattle.hall_history.proofs.HistoryMore.{SameData, data_closed, data_dropped, opened_more}
+use Rattle.hall_history.proofs.HistoryMore.{subject}
+use Rattle.hall_history.proofs.HistoryFronts.{loading_open}
 use Rattle.registry_core.proofs.KeepsMore.{promise_same, promise_told, promised_to}
-use Rattle.registry_core.proofs.LawEntries.{loading_open, open_within, sum_around}
+use Rattle.registry_core.proofs.LawEntries.{open_within}
 
 -- the entry ends this trace, and tells nothing else
 pub record IsEndOf {X : Type 0} (e : EntryOf X) (id : ℕ) : Type 0 where
@@ -50,20 +52,6 @@ pub ended_ids : {X : Type 0} (entries : List (EntryOf X)) (e : EntryOf X) (id : 
 ended_ids entries e id end = opened_more entries e
     ∙ ap (λ o. opened_ids entries ++ option_to_list o) end.opens ∙ append-nil _
 
--- a trace that was ended or is now, in two steps
-shut_too : (a b c : Bool) → (a && not (b || c)) ≡ ((a && not b) && not c)
-shut_too true true c = refl
-shut_too true false c = refl
-shut_too false b c = refl
-
--- two tests in either order
-and_swap : (a b c : Bool) → ((a && b) && c) ≡ ((a && c) && b)
-and_swap true true true = refl
-and_swap true true false = refl
-and_swap true false true = refl
-and_swap true false false = refl
-and_swap false b c = refl
-
 -- the traces that were open still are, but for this one
 pub ended_open : {X : Type 0} (entries : List (EntryOf X)) (e : EntryOf X) (id x : ℕ) → IsEndOf e id
     → is_open (entries ++ e ∷ []) x ≡ (is_open entries x && not (eqb id x))
@@ -71,39 +59,17 @@ unfolding is_open
 ended_open entries e id x end = ap₂ (λ ids b. list_any (λ other. eqb other x) ids && not b)
     (ended_ids entries e id end)
     (any_more (ends x) entries e ∙ ap (λ b. list_any (ends x) entries || b) (end.ended x))
-    ∙ shut_too (list_any (λ other. eqb other x) (opened_ids entries)) (list_any (ends x) entries) (eqb id x)
+    ∙ and_not-or (list_any (λ other. eqb other x) (opened_ids entries)) (list_any (ends x) entries) (eqb id x)
 
 -- so are those that were loading
 pub ended_loading : {X : Type 0} (entries : List (EntryOf X)) (e : EntryOf X) (id x : ℕ) → IsEndOf e id
     → is_loading (entries ++ e ∷ []) x ≡ (is_loading entries x && not (eqb id x))
 unfolding is_loading
 ended_loading entries e id x end = ap₂ (λ a b. a && not b) (ended_open entries e id x end)
-    (any_more (seals x) entries e ∙ ap (λ b. list_any (seals x) entries || b) (end.sealed x) ∙ or_false _)
+    (any_more (seals x) entries e ∙ ap (λ b. list_any (seals x) entries || b) (end.sealed x) ∙ or-false _)
     ∙ and_swap (is_open entries x) (not (eqb id x)) (not (list_any (seals x) entries))
 
 -- ---- promised places
-
--- a sum over those that pass loses what one of them adds, where it no longer passes
-sum_without : (f : ℕ → ℕ) (p q : ℕ → Bool) (id a n : ℕ) → AgreeBut id p q → q id ≡ false
-    → (p id ≡ true → (a ≤ id) × (id < a + n)) → sum_by f (filter p (range_with_len a n))
-    ≡ sum_by f (filter q (range_with_len a n)) + cond (p id) (f id) 0
-sum_without f p q id a n agree failed within = go (p id) refl
-  where
-    go : (b : Bool) → p id ≡ b → sum_by f (filter p (range_with_len a n))
-        ≡ sum_by f (filter q (range_with_len a n)) + cond b (f id) 0
-    go true passed =
-        let parts = filters_around p q id a n agree (within passed).0 (within passed).1 in
-        let was = ap (sum_by f) parts.old ∙ sum_around f parts.front parts.back (p id) id in
-        let is = ap (sum_by f) parts.new ∙ sum_around f parts.front parts.back (q id) id in
-        let one : cond (p id) (f id) 0 ≡ f id = ap (λ b. cond b (f id) 0) passed in
-        let none : cond (q id) (f id) 0 ≡ 0 = ap (λ b. cond b (f id) 0) failed in
-        omega (arith, was, is, one, none)
-    go false fails =
-        let same : (x : ℕ) → p x ≡ q x = λ x. elim (eqb_tells id x) [
-          | inl this ↦ ap p (sym this.1) ∙ fails ∙ sym failed ∙ ap q this.1
-          | inr other ↦ sym (agree x other.0)
-        ] in
-        omega (arith, ap (sum_by f) (filter_agree p q same (range_with_len a n)))
 
 -- the promised places lose those of the trace
 pub ended_promised : {X : Type 0} (entries : List (EntryOf X)) (e : EntryOf X) (id first : ℕ) → IsEndOf e id

@@ -5,8 +5,8 @@ use Rattle.std.specs.Prelude.{slice_get}
 use Rattle.std.specs.Option.{option_map_or}
 use Rattle.std.proofs.lemmas.List.{take-append-le}
 use Rattle.trace_base.specs.declared.names.TraceInfo.{TraceInfo}
-use Rattle.node_key.specs.History.{EntryOf, info_of, is_loading, published_count, published_of, tracks_of}
-use Rattle.node_key.proofs.HistoryMore.{SameData, SameFate, tracks_same}
+use Rattle.hall_history.specs.History.{EntryOf, info_of, is_loading, published_count, published_of, tracks_of}
+use Rattle.hall_history.proofs.HistoryMore.{SameData, SameFate, tracks_same}
 use Rattle.registry_core.specs.Standing.{IsPublishedBy, IsUntold, KeepsTrace, KeepsTrack, RootsAre, Start}
 use Rattle.registry_core.specs.Trace.{Trace, promise_of}
 use Rattle.registry_core.specs.declared.track_root.TrackRoot.{TrackRoot}

@@ -12,11 +12,11 @@ use Rattle.std.proofs.lemmas.List.Elements.{All-cons, All-map, All-nil, All-weak
 use Rattle.std.proofs.lemmas.Map.Entries.{option_filter}
 use Rattle.std.proofs.lemmas.Map.Keys.{sorted_tail}
 use Rattle.std.proofs.lemmas.Simd.{map-map}
+use Rattle.list_lemmas.proofs.Found.{found_passes}
 use Rattle.registry_core.specs.Registry.{has_id, is_open_trace, kept_trace, open_trace, with_changed}
 use Rattle.registry_core.specs.Registry.{without_trace}
 use Rattle.registry_core.specs.Trace.{Trace}
 use Rattle.registry_core.proofs.FilteredLists.{all_of_keys}
-use Rattle.registry_core.proofs.FoundItems.{found_passes}
 
 -- ---- ids that rise
 

@@ -1,23 +1,24 @@
 -- What one entry more leaves of what a history tells, and what it does to the promised places, where ids
 -- count up from any number.
-use Rattle.std.proofs.Common.{◌≡◌, ℕ, ◌+◌, ◌<◌, ◌≤◌, inl, inr, Bool, true, false, ◌||◌, ◌&&◌, not, cond}
-use Rattle.std.proofs.Common.{eqb, List, [], ◌∷◌, ◌++◌, filter, sum_by, suc, zero, refl, sym, ap, ap₂, ◌∙◌}
+use Rattle.std.proofs.Common.{◌≡◌, ℕ, ◌+◌, ◌<◌, ◌≤◌, true, false, ◌||◌, ◌&&◌, not, cond}
+use Rattle.std.proofs.Common.{eqb, List, [], ◌∷◌, ◌++◌, filter, sum_by, refl, sym, ap, ap₂, ◌∙◌}
 use Rattle.std.proofs.Common.{arith}
 use Rattle.std.specs.List.{list_any, range_with_len}
 use Rattle.std.proofs.lemmas.Bool.{and_parts, and_from, and_right, eq-eqb, not_from_false, not_from_true}
 use Rattle.std.proofs.lemmas.Bool.{or_left, or_right}
-use Rattle.std.proofs.lemmas.Bool.Decides.{eqb_tells}
 use Rattle.std.proofs.lemmas.List.{append-nil}
 use Rattle.std.proofs.lemmas.List.Elements.{filter-append}
 use Rattle.std.proofs.lemmas.List.Folds.{list_any-append}
-use Rattle.std.proofs.lemmas.List.Sums.{sum_by-append, sum_by-cons}
+use mathlib.Core.Bool.{or-false}
+use Rattle.list_lemmas.proofs.AroundOne.{AgreeBut, Around, Lacks, Lacks-filter, filter_same, filters_around}
+use Rattle.list_lemmas.proofs.AroundOne.{range_below, sum_around, sum_same}
+use Rattle.list_lemmas.proofs.Found.{any_more}
+use Rattle.list_lemmas.proofs.Ranges.{in_range}
 use Rattle.trace_base.specs.declared.names.TraceInfo.{TraceInfo}
-use Rattle.node_key.proofs.HistoryMore.{any_more, data_of_others, fate_of_others, fate_published}
-use Rattle.node_key.proofs.HistoryMore.{loading_same, open_same, opened_more, or_false, subject}
-use Rattle.node_key.proofs.Ranges.{AgreeBut, Around, Lacks, Lacks-filter, filter_same, filters_around}
-use Rattle.node_key.proofs.Ranges.{range_below, sum_same}
-use Rattle.node_key.specs.History.{EntryOf, Opened, Published, Sealed, ends, is_loading, is_open, opened_ids}
-use Rattle.node_key.specs.History.{promised, seals}
+use Rattle.hall_history.proofs.HistoryMore.{data_of_others, fate_of_others, fate_published}
+use Rattle.hall_history.proofs.HistoryMore.{loading_same, open_same, opened_more, subject}
+use Rattle.hall_history.specs.History.{EntryOf, Opened, Published, Sealed, ends, is_loading, is_open}
+use Rattle.hall_history.specs.History.{opened_ids, promised, seals}
 use Rattle.registry_core.specs.Standing.{IsUntold, KeepsTrace, RootsAre, Start}
 use Rattle.registry_core.specs.Trace.{Trace}
 use Rattle.registry_core.proofs.KeepsMore.{IsUntold-more, KeepsTrace-more, promise_same, promise_told}
@@ -25,32 +26,12 @@ use Rattle.registry_core.proofs.KeepsMore.{promised_to}
 
 -- ---- ids that count up
 
--- a number of the range lies in it
-pub in_range : (a n x : ℕ) → list_any (λ other. eqb other x) (range_with_len a n) ≡ true → (a ≤ x)
-    × (x < a + n)
-in_range a zero x any = absurd cc
-in_range a (suc n) x any =
-    elim (eqb_tells a x) [
-      | inl same ↦ (omega arith, omega arith)
-      | inr other ↦
-          let rest : list_any (λ other. eqb other x) (range_with_len (a + 1) n) ≡ true =
-          sym (ap (λ b. b || list_any (λ other. eqb other x) (range_with_len (a + 1) n)) other.0) ∙ any in
-          let within = in_range (a + 1) n x rest in
-          (omega arith, omega arith)
-    ]
-
 -- an open trace has an id that was given
 pub open_within : {X : Type 0} (entries : List (EntryOf X)) (a n id : ℕ)
     → opened_ids entries ≡ range_with_len a n → is_open entries id ≡ true → (a ≤ id) × (id < a + n)
 unfolding is_open
 open_within entries a n id ids on = in_range a n id
     (sym (ap (list_any (λ other. eqb other id)) ids) ∙ (and_parts _ _ on).0)
-
--- a loading trace is open
-pub loading_open : {X : Type 0} (entries : List (EntryOf X)) (id : ℕ) → is_loading entries id ≡ true
-    → is_open entries id ≡ true
-unfolding is_loading
-loading_open entries id loading = (and_parts _ _ loading).0
 
 -- ---- the promised places
 
@@ -64,16 +45,6 @@ loads_agree entries e x ne =
 promises_agree : {X : Type 0} (entries : List (EntryOf X)) (e : EntryOf X)
     → AgreeBut (subject e) (promise_told entries) (promise_told (entries ++ e ∷ []))
 promises_agree entries e x ne = promise_same entries _ x (data_of_others entries e x ne)
-
--- a sum over three parts, with at most one number in the middle
-pub sum_around : (f : ℕ → ℕ) (front back : List ℕ) (b : Bool) (id : ℕ)
-    → sum_by f (front ++ cond b (id ∷ []) [] ++ back) ≡ sum_by f front + cond b (f id) 0 + sum_by f back
-sum_around f front back b id =
-    let mid : sum_by f (cond b (id ∷ []) []) ≡ cond b (f id) 0 = elim b as
-    (λ b. sum_by f (cond b (id ∷ []) []) ≡ cond b (f id) 0)
-    [ true ↦ sum_by-cons f id [] ∙ omega arith | false ↦ refl ] in
-    sum_by-append f (front ++ cond b (id ∷ []) []) back ∙ ap (λ n. n + sum_by f back)
-    (sum_by-append f front (cond b (id ∷ []) []) ∙ ap (λ n. sum_by f front + n) mid)
 
 -- an entry that opens nothing changes the promise of its trace alone
 pub promised_more : {X : Type 0} (entries : List (EntryOf X)) (e : EntryOf X) (a n : ℕ)
@@ -134,7 +105,7 @@ pub open_stays : {X : Type 0} (entries : List (EntryOf X)) (e : EntryOf X) (id :
 unfolding is_open
 open_stays entries e id ids no_end =
     let ended : list_any (ends id) (entries ++ e ∷ []) ≡ list_any (ends id) entries =
-    any_more (ends id) entries e ∙ ap (λ b. list_any (ends id) entries || b) no_end ∙ or_false _ in
+    any_more (ends id) entries e ∙ ap (λ b. list_any (ends id) entries || b) no_end ∙ or-false _ in
     rw (ids, ended) refl
 
 -- what is open of others is so after any entry
@@ -159,7 +130,7 @@ opened_opens entries id info none =
     let among : list_any (λ other. eqb other id) (opened_ids new) ≡ true =
     ap (list_any (λ other. eqb other id)) (opened_more entries (Opened id info)) ∙ list_any-append
     (λ other. eqb other id) (opened_ids entries) (id ∷ []) ∙ or_right _ _ (or_left _ _ this) in
-    let on : list_any (ends id) new ≡ false = any_more (ends id) entries (Opened id info) ∙ or_false _ ∙
+    let on : list_any (ends id) new ≡ false = any_more (ends id) entries (Opened id info) ∙ or-false _ ∙
     none.ended in
     and_from _ _ among (not_from_false _ on)
 
@@ -169,7 +140,7 @@ pub opened_loads : {X : Type 0} (entries : List (EntryOf X)) (id : ℕ) (info : 
 unfolding is_loading
 opened_loads entries id info none =
     let unsealed : list_any (seals id) (entries ++ Opened id info ∷ []) ≡ false =
-    any_more (seals id) entries (Opened id info) ∙ or_false _ ∙ none.sealed in
+    any_more (seals id) entries (Opened id info) ∙ or-false _ ∙ none.sealed in
     and_from _ _ (opened_opens entries id info none) (not_from_false _ unsealed)
 
 -- a trace of which a track is published loads on

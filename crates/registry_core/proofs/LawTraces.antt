@@ -1,17 +1,15 @@
 -- What is found among traces after one of them has changed, or one more has come.
-use Rattle.std.proofs.Common.{◌≡◌, ◌≢◌, ℕ, ◌+◌, ◌<◌, ◌≤◌, Bool, true, false, ◌&&◌, not, cond, eqb, List, []}
-use Rattle.std.proofs.Common.{◌∷◌, ◌++◌, get_or, length, count_by, replicate, set, suc, zero, Option, None}
+use Rattle.std.proofs.Common.{◌≡◌, ℕ, ◌<◌, ◌≤◌, Bool, true, false, ◌&&◌, not, cond, eqb, List, []}
+use Rattle.std.proofs.Common.{◌∷◌, ◌++◌, None}
 use Rattle.std.proofs.Common.{Some, refl, ap, ap₂, ◌∙◌, arith, All, option_map}
-use Rattle.std.specs.Prelude.{is_some, slice_get}
+use Rattle.std.specs.Prelude.{is_some}
 use Rattle.std.specs.Option.{option_or}
 use Rattle.std.proofs.lemmas.Bool.Decides.{nat_tests}
-use Rattle.std.proofs.lemmas.List.{length-set}
-use Rattle.std.proofs.lemmas.List.Folds.{find-append, sum_by-replicate}
-use Rattle.std.proofs.lemmas.List.Sums.{sum_by-set, count_by-le-length}
-use Rattle.std.proofs.lemmas.Option.{get_or_from_slice_get, same_Some, slice_get_within}
+use Rattle.std.proofs.lemmas.List.Folds.{find-append}
+use Rattle.list_lemmas.proofs.Found.{find-map_same, find_stricter, none_found}
+use Rattle.list_lemmas.proofs.Options.{is_some-map}
 use Rattle.registry_core.specs.Registry.{has_id, is_open_trace, kept_trace, open_trace, with_changed}
 use Rattle.registry_core.specs.Trace.{Trace}
-use Rattle.registry_core.proofs.FoundItems.{find-map_same, find_stricter, is_some-map, none_found}
 
 -- ---- traces
 
@@ -66,44 +64,3 @@ open_changed id f traces other keeps stays =
     (λ b. p (cond b (f t) t) ≡ p t)
     [ true ↦ ap₂ (λ i c. eqb i other && not c) (keeps t) (stays t) | false ↦ refl ]) traces) ∙ is_some-map
     (changed_at id f) (open_trace traces other)
-
--- ---- tracks
-
--- what stands where it was put
-pub get_set_same : {X : Type 0} (xs : List X) (i : ℕ) (y : X) → i < length xs
-    → slice_get (set xs i y) i ≡ Some y
-get_set_same [] i y lt = absurd (omega arith)
-get_set_same (x ∷ xs) zero y lt = refl
-get_set_same (x ∷ xs) (suc i) y lt = get_set_same xs i y (omega arith)
-
--- what stands elsewhere
-pub get_set_other : {X : Type 0} (xs : List X) (i k : ℕ) (y : X) → i ≢ k
-    → slice_get (set xs i y) k ≡ slice_get xs k
-get_set_other [] i k y ne = refl
-get_set_other (x ∷ xs) zero zero y ne = absurd (ne refl)
-get_set_other (x ∷ xs) zero (suc k) y ne = refl
-get_set_other (x ∷ xs) (suc i) zero y ne = refl
-get_set_other (x ∷ xs) (suc i) (suc k) y ne = get_set_other xs i k y (λ e. ne (ap suc e))
-
--- a list of empty slots has nothing else
-pub get_replicate : {X : Type 0} (n k : ℕ) (x y : X) → slice_get (replicate n x) k ≡ Some y → x ≡ y
-get_replicate zero k x y at = absurd cc
-get_replicate (suc n) zero x y at = same_Some x y at
-get_replicate (suc n) (suc k) x y at = get_replicate n k x y at
-
--- none of them is filled
-pub count_empty : (X : Type 0) (n : ℕ) → count_by (is_some {T = X}) (replicate n None) ≡ 0
-count_empty X n = sum_by-replicate (λ (o : Option X). cond (is_some o) 1 0) n None ∙ omega arith
-
--- one slot more is filled, and was not
-pub count_filled : {X : Type 0} (slots : List (Option X)) (i : ℕ) (x : X) → slice_get slots i ≡ Some None
-    → (count_by is_some (set slots i (Some x)) ≡ count_by is_some slots + 1)
-    × (count_by is_some slots < length slots)
-count_filled {X} slots i x at =
-    let within : i < length slots = slice_get_within slots i None at in
-    let was = get_or_from_slice_get slots i None None at in
-    let f : Option X → ℕ = λ o. cond (is_some o) 1 0 in
-    let sums = sum_by-set f slots i (Some x) None within in
-    let none : f (get_or slots i None) ≡ 0 = ap f was in
-    let count : count_by is_some (set slots i (Some x)) ≡ count_by is_some slots + 1 = omega arith in
-    (count, omega (arith, count_by-le-length is_some (set slots i (Some x)), length-set slots i (Some x)))

@@ -2,7 +2,6 @@ pub mod ById
 pub mod EndTraces
 pub mod EndedMore
 pub mod FilteredLists
-pub mod FoundItems
 pub mod KeepsMore
 pub mod KeptTraces
 pub mod LawEntries
@@ -11,8 +10,6 @@ pub mod OneTrace
 pub mod OpenRows
 pub mod RootsOfTracks
 pub mod RowsOfTraces
-pub mod SameLists
-pub mod Samples
 pub mod SoundAsks
 pub mod SoundLoads
 pub mod StandsAsked

@@ -15,10 +15,10 @@ use Rattle.std.proofs.lemmas.List.Sums.{sum_by-append, sum_by-cons}
 use Rattle.std.proofs.lemmas.Map.Entries.{option_filter}
 use Rattle.std.proofs.lemmas.Map.Keys.{sorted_tail}
 use Rattle.std.proofs.lemmas.Option.{same_Some}
+use Rattle.list_lemmas.proofs.Found.{find_stricter}
 use Rattle.registry_core.specs.Registry.{has_id, is_open_trace, kept_trace, open_count, open_trace}
 use Rattle.registry_core.specs.Registry.{with_changed, without_trace}
 use Rattle.registry_core.specs.Trace.{Trace}
-use Rattle.registry_core.proofs.FoundItems.{find_stricter}
 use Rattle.registry_core.proofs.KeptTraces.{All-with_changed, IsRising, IsRising-map, find-has_id, ids_of}
 use Rattle.registry_core.proofs.KeptTraces.{kept_each, none_behind, with_changed-none, without_trace-none}
 

@@ -1,22 +1,23 @@
 -- The open traces of a registry and the open ids of its history are one list, and so are their rows.
-use Rattle.std.proofs.Common.{◌≡◌, ℕ, ◌+◌, ◌<◌, Bool, true, false, ◌&&◌, inl, inr, not, cond, eqb, List}
-use Rattle.std.proofs.Common.{[], ◌∷◌, suc, zero, length, map, filter, All, Contains, Some, refl, sym, ap}
-use Rattle.std.proofs.Common.{ap₂, ◌∙◌, subst, arith, get_or}
+use Rattle.std.proofs.Common.{◌≡◌, ℕ, Bool, true, false, ◌&&◌, inl, inr, not, cond, eqb, List}
+use Rattle.std.proofs.Common.{[], ◌∷◌, length, map, filter, All, Contains, Some, refl, sym, ap}
+use Rattle.std.proofs.Common.{◌∙◌, subst, arith, get_or}
 use Rattle.std.specs.Prelude.{is_some}
-use Rattle.std.specs.Cmp.{nat_cmp_is}
-use Rattle.std.specs.List.{AllByRecursion, range_with_len}
+use Rattle.std.specs.List.{range_with_len}
 use Rattle.std.specs.List.Sorted.{IsStrictlySortedBy}
 use Rattle.std.specs.Ordering.{nat_cmp}
-use Rattle.std.specs.declared.cmp.Ordering.TheVariants.{Less}
 use Rattle.std.proofs.lemmas.Bool.{and_parts, eq-eqb, eqb-true, true≢false}
 use Rattle.std.proofs.lemmas.Cmp.{nat_cmp_total}
 use Rattle.std.proofs.lemmas.List.{length-map}
-use Rattle.std.proofs.lemmas.List.Elements.{All-contains, All-filter, All-head, All-tail, filter_passes}
+use Rattle.std.proofs.lemmas.List.Elements.{All-contains, All-filter, filter_passes}
 use Rattle.std.proofs.lemmas.List.Sums.{length-filter}
 use Rattle.std.proofs.lemmas.List.Kept.{IsStrictlySortedBy-filter}
 use Rattle.std.proofs.lemmas.Map.Views.{Contains-from_any}
-use Rattle.trace_base.proofs.InOrder.{has_cons, has_here, has_there, rising-unique}
-use Rattle.node_key.specs.History.{EntryOf, is_open, open_ids, opened_ids, tracks_of}
+use Rattle.list_lemmas.proofs.InOrder.{rising-unique}
+use Rattle.list_lemmas.proofs.Maps.{map_told}
+use Rattle.list_lemmas.proofs.Members.{filter-keeps, has_cons, has_here, has_there}
+use Rattle.list_lemmas.proofs.Ranges.{range_rises}
+use Rattle.hall_history.specs.History.{EntryOf, is_open, open_ids, opened_ids, tracks_of}
 use Rattle.registry_core.specs.Closing.{rows_of}
 use Rattle.registry_core.specs.Registry.{RegistryValue, is_open_trace, open_count, open_trace}
 use Rattle.registry_core.specs.Standing.{KeepsTrace, RootsAre, StandsFor, Start, row_told}
@@ -25,47 +26,13 @@ use Rattle.registry_core.proofs.FilteredLists.{rising-filter}
 use Rattle.registry_core.proofs.KeepsMore.{tracks_told}
 use Rattle.registry_core.proofs.KeptTraces.{ids_of, kept_each}
 
--- ---- rising lists
-
--- a lesser number comes before
-less_of : (x y : ℕ) → x < y → nat_cmp x y ≡ Less
-less_of x y lt = sym (nat_cmp_is x y Less lt)
-
--- a range from a greater number on lies behind
-range_above : (a b n : ℕ) → a < b → AllByRecursion (λ y. nat_cmp a y ≡ Less) (range_with_len b n)
-range_above a b zero lt = tt
-range_above a b (suc n) lt = (less_of a b lt, range_above a (b + 1) n (omega arith))
-
--- a range rises
-range_rises : (a n : ℕ) → IsStrictlySortedBy nat_cmp (range_with_len a n)
-unfolding IsStrictlySortedBy
-range_rises a zero = tt
-range_rises a (suc n) = (range_above a (a + 1) n (omega arith), range_rises (a + 1) n)
-
--- ---- what a filtered list has
-
--- an item that passes the test is among those that do
-filter_has : {X : Type 0} (p : X → Bool) (xs : List X) (x : X) → Contains xs x → p x ≡ true
-    → Contains (filter p xs) x
-filter_has p [] x has passes = absurd (omega (arith, has.1))
-filter_has {X} p (y ∷ ys) x has passes =
-    elim (has_cons y x ys has) [
-      | inl same ↦ subst (λ (b : Bool). Contains (cond b (y ∷ filter p ys) (filter p ys)) x)
-          (sym (ap p same ∙ passes))
-          (subst (λ (z : X). Contains (y ∷ filter p ys) z) same (has_here y (filter p ys)))
-      | inr later ↦ elim (p y) as (λ b. Contains (cond b (y ∷ filter p ys) (filter p ys)) x) [
-        | true ↦ has_there y x (filter p ys) (filter_has p ys x later passes)
-        | false ↦ filter_has p ys x later passes
-      ]
-    ]
-
 -- ---- the open ids
 
 -- an id that is open is among the open ids
 open_id_has : {X : Type 0} (entries : List (EntryOf X)) (id : ℕ) → is_open entries id ≡ true
     → Contains (open_ids entries) id
 unfolding open_ids is_open
-open_id_has entries id on = filter_has (is_open entries) (opened_ids entries) id
+open_id_has entries id on = filter-keeps (is_open entries) (opened_ids entries) id
     (Contains-from_any {eq = λ x y. eqb y x} (λ x y is. sym (eqb-true y x is)) id (opened_ids entries)
     (and_parts _ _ on).0) on
 
@@ -124,13 +91,6 @@ open_trace_is (t ∷ traces) id has = by (eqb t.id id) (not t.closing) refl has 
       | inr there ↦ later there
     ]
     by false false same has later = later has
-
--- what f makes of each item, g makes of its key
-map_told : {X K Y : Type 0} (key : X → K) (f : X → Y) (g : K → Y) (xs : List X)
-    → All (λ x. f x ≡ g (key x)) xs → map f xs ≡ map g (map key xs)
-map_told key f g [] all = refl
-map_told key f g (x ∷ xs) all = ap₂ ◌∷◌ (All-head (λ y. f y ≡ g (key y)) x xs all)
-    (map_told key f g xs (All-tail (λ y. f y ≡ g (key y)) x xs all))
 
 -- ---- a registry that stands for its history
 

@@ -7,7 +7,7 @@ use Rattle.std.proofs.lemmas.List.{length-map}
 use Rattle.std.proofs.lemmas.List.Elements.{All-head, All-tail}
 use Rattle.std.proofs.lemmas.List.Sums.{length-filter}
 use Rattle.trace_base.specs.declared.limits.TheConstants.{MAX_TRACKS}
-use Rattle.trace_base.specs.declared.listing.ListRow.{ListRow}
+use Rattle.hall_history.specs.declared.listing.ListRow.{ListRow}
 use Rattle.registry_core.specs.Registry.{is_open_trace, open_count}
 use Rattle.registry_core.specs.Trace.{Trace, row_of}
 

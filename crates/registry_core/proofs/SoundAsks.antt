@@ -1,12 +1,11 @@
 -- What a question for traces, and traces that are given back, leave of a sound registry.
-use Rattle.std.proofs.Common.{◌≡◌, ℕ, ◌+◌, ◌-◌, ◌<◌, ◌≤◌, ◌==◌, ◌&&◌, Bool, true, false, not, cond, List}
-use Rattle.std.proofs.Common.{filter, length, get_or, None, Some, nat_cmp, arith, sym, ap₂, ◌∙◌, subst}
-use Rattle.std.proofs.Common.{inl, inr}
+use Rattle.std.proofs.Common.{◌≡◌, ℕ, ◌+◌, ◌-◌, ◌<◌, ◌≤◌, true, false, not, cond, List}
+use Rattle.std.proofs.Common.{filter, length, get_or, None, Some, nat_cmp, arith, sym, ◌∙◌, subst}
 use Rattle.std.specs.List.Sorted.{IsStrictlySortedBy}
-use Rattle.std.proofs.lemmas.Bool.{false≢true}
-use Rattle.std.proofs.lemmas.Bool.Decides.{eqb_tells}
 use Rattle.std.proofs.lemmas.List.Elements.{All-filter, All-map, filter_passes}
-use Rattle.trace_base.specs.declared.asks.AskIds.{AskIds}
+use Rattle.list_lemmas.proofs.All.{All-found}
+use Rattle.list_lemmas.proofs.Numbers.{pos_unless_both}
+use Rattle.hall_history.specs.declared.asks.AskIds.{AskIds}
 use Rattle.trace_base.specs.declared.limits.TheConstants.{MAX_TRACKS}
 use Rattle.registry_core.specs.Asking.{AreUsed, after_unpin, first_unknown, times_asked, with_users}
 use Rattle.registry_core.specs.Asking.{without_users}
@@ -14,7 +13,6 @@ use Rattle.registry_core.specs.Registry.{FitsPlaces, IsSoundRegistry, RegistryVa
 use Rattle.registry_core.specs.Registry.{is_open_trace, kept_trace, open_count}
 use Rattle.registry_core.specs.Trace.{IsSoundTrace, Trace, is_over, promise_of, used_less, used_more}
 use Rattle.registry_core.proofs.FilteredLists.{rising-filter, sum_by-filter_zero}
-use Rattle.registry_core.proofs.FoundItems.{All-found}
 use Rattle.registry_core.proofs.Users.{ids-users, open_count-users, over_closing, over_unpromised}
 use Rattle.registry_core.proofs.Users.{promises-users, times_asked-le}
 
@@ -65,15 +63,6 @@ sound-asked r ids was fits known = record {
 
 -- ---- traces that are given back
 
--- a trace that ended and isn't over has users
-used_unless_over : (closing : Bool) (users : ℕ) → not (closing && users == 0) ≡ true → closing ≡ true
-    → 0 < users
-used_unless_over closing users left ended =
-    elim (eqb_tells users 0) [
-      | inl none ↦ absurd (false≢true (sym (ap₂ (λ x y. not (x && y)) ended none.0) ∙ left))
-      | inr some ↦ omega (arith, some.1)
-    ]
-
 -- a trace stays sound that has fewer users and isn't over
 pub sound_trace-left : (place n : ℕ) (t : Trace) → IsSoundTrace place t
     → not (is_over (used_less n t)) ≡ true → IsSoundTrace place (used_less n t)
@@ -81,7 +70,7 @@ sound_trace-left place n t was left = record {
   legal = was.legal;
   tracks = was.tracks;
   users = omega (arith, was.users);
-  used = λ closing. used_unless_over t.closing (t.users - n) left closing;
+  used = λ closing. pos_unless_both t.closing (t.users - n) left closing;
   ended = was.ended;
 }
 

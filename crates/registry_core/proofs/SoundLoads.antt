@@ -6,6 +6,8 @@ use Rattle.std.specs.Prelude.{is_some, slice_get, slice_set}
 use Rattle.std.proofs.lemmas.List.{length-replicate, length-set}
 use Rattle.std.proofs.lemmas.List.Elements.{All-filter, All-push, All-weaker}
 use Rattle.std.proofs.lemmas.List.Sums.{count_by-le-length, sum_by_push}
+use Rattle.list_lemmas.proofs.All.{All-found}
+use Rattle.list_lemmas.proofs.Filters.{count-empty, count-filled}
 use Rattle.trace_base.specs.Info.{IsLegalInfo}
 use Rattle.trace_base.specs.declared.limits.TheConstants.{MAX_OPEN_TRACES}
 use Rattle.trace_base.specs.declared.names.TraceInfo.{TraceInfo}
@@ -17,9 +19,7 @@ use Rattle.registry_core.specs.Registry.{is_open_trace, kept_trace, open_count, 
 use Rattle.registry_core.specs.Trace.{IsSoundTrace, Trace, just_opened, kept_for_users, loaded, promise_of}
 use Rattle.registry_core.specs.Trace.{published_tracks, with_root}
 use Rattle.registry_core.proofs.FilteredLists.{rising-filter}
-use Rattle.registry_core.proofs.FoundItems.{All-found}
 use Rattle.registry_core.proofs.KeptTraces.{kept_id, kept_own}
-use Rattle.registry_core.proofs.LawTraces.{count_empty, count_filled}
 use Rattle.registry_core.proofs.OneTrace.{all-changed, count-changed, rises-changed, rises-push, sum-changed}
 use Rattle.registry_core.proofs.OneTrace.{sum-without}
 
@@ -49,7 +49,7 @@ adds_open t = cond (is_open_trace t) 1 0
 promise-opened : (id : ℕ) (info : TraceInfo) → promise_of (just_opened id info) ≡ length info.names.tracks + 1
 promise-opened id info = omega (
   arith,
-  count_empty TrackRoot (length info.names.tracks),
+  count-empty TrackRoot (length info.names.tracks),
   length-replicate {A = Option TrackRoot} (length info.names.tracks) None,
 )
 
@@ -67,7 +67,7 @@ opened-trace place id info legal = record {
 pub promise-published : (track : ℕ) (root : TrackRoot) (t : Trace) → t.loading ≡ true
     → slice_get t.tracks track ≡ Some None → 1 + promise_of (with_root track root t) ≡ promise_of t
 promise-published track root t loading awaits =
-    let more = (count_filled t.tracks track root awaits).0 in
+    let more = (count-filled t.tracks track root awaits).0 in
     let most = count_by-le-length is_some (slice_set t.tracks track (Some root)) in
     let long = length-set t.tracks track (Some root) in
     let next = with_root track root t in

@@ -2,8 +2,8 @@
 use Rattle.std.proofs.Common.{◌≡◌, ℕ, List, [], ◌∷◌, ◌++◌, filter, sum_by, refl, sym, ap₂, ◌∙◌}
 use Rattle.std.proofs.Common.{arith, length-append, append-nil}
 use Rattle.std.proofs.Math.Path.{fun_ext}
-use Rattle.node_key.specs.History.{Asked, EntryOf, is_loading, is_open, opened_ids, promised}
-use Rattle.node_key.proofs.HistoryMore.{data_asked, fate_asked, loading_same, open_same, opened_more}
+use Rattle.hall_history.specs.History.{Asked, EntryOf, is_loading, is_open, opened_ids, promised}
+use Rattle.hall_history.proofs.HistoryMore.{data_asked, fate_asked, loading_same, open_same, opened_more}
 use Rattle.registry_core.specs.Registry.{IsSoundRegistry, RegistryValue, after_entry}
 use Rattle.registry_core.specs.Standing.{RootsAre, StandsFor, Start}
 use Rattle.registry_core.proofs.KeepsMore.{IsUntold-more, KeepsTrace-more, promise_same, promise_told}

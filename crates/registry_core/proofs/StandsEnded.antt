@@ -2,8 +2,9 @@
 use Rattle.std.proofs.Common.{◌≡◌, ℕ, ◌+◌, ◌-◌, ◌<◌, false, ◌&&◌, not, eqb, List, [], ◌∷◌, ◌++◌, Some, sym}
 use Rattle.std.proofs.Common.{ap, ap₂, ◌∙◌, subst, arith, length-append}
 use Rattle.std.proofs.lemmas.Bool.Decides.{nat_tests}
-use Rattle.node_key.specs.History.{EntryOf, is_loading}
-use Rattle.node_key.proofs.HistoryMore.{subject}
+use Rattle.list_lemmas.proofs.All.{All-found}
+use Rattle.hall_history.specs.History.{EntryOf, is_loading}
+use Rattle.hall_history.proofs.HistoryMore.{subject}
 use Rattle.registry_core.specs.Loading.{with_ended, with_kept}
 use Rattle.registry_core.specs.Registry.{IsSoundRegistry, RegistryValue, has_id, kept_trace, with_changed}
 use Rattle.registry_core.specs.Registry.{without_trace}
@@ -12,7 +13,6 @@ use Rattle.registry_core.specs.Trace.{IsSoundTrace, Trace, kept_for_users, promi
 use Rattle.registry_core.proofs.EndTraces.{EndsTrace, ends-gone, ends-kept}
 use Rattle.registry_core.proofs.EndedMore.{IsEndOf, ended_ids, ended_loading, ended_open}
 use Rattle.registry_core.proofs.EndedMore.{ended_promised}
-use Rattle.registry_core.proofs.FoundItems.{All-found}
 use Rattle.registry_core.proofs.KeepsMore.{KeepsTrace-more, promise_kept}
 use Rattle.registry_core.proofs.KeptTraces.{kept_id, kept_own}
 use Rattle.registry_core.proofs.LawEntries.{untold_stays}

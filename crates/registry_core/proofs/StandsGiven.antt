@@ -1,11 +1,13 @@
 -- A registry stands for its history whatever users its traces have.
-use Rattle.std.proofs.Common.{◌≡◌, ℕ, Bool, true, false, ◌&&◌, not, eqb, List, map, filter, Some, is_some}
+use Rattle.std.proofs.Common.{◌≡◌, ℕ, not, eqb, List, map, filter, Some, is_some}
 use Rattle.std.proofs.Common.{refl, sym, ap, ◌∙◌, subst}
-use Rattle.node_key.specs.History.{EntryOf}
+use Rattle.list_lemmas.proofs.Booleans.{and_not-and}
+use Rattle.list_lemmas.proofs.Found.{find-filter, find-map_same, find_agree}
+use Rattle.list_lemmas.proofs.Options.{is_some-map, option_map_found}
+use Rattle.hall_history.specs.History.{EntryOf}
 use Rattle.registry_core.specs.Registry.{IsSoundRegistry, RegistryValue, has_id, kept_trace, open_trace}
 use Rattle.registry_core.specs.Standing.{RootsAre, StandsFor, Start}
 use Rattle.registry_core.specs.Trace.{Trace, is_over}
-use Rattle.registry_core.proofs.FoundItems.{find_agree, find-filter, find-map_same, is_some-map, map_found}
 use Rattle.registry_core.proofs.KeepsMore.{KeepsTrace-same, SameTracks}
 use Rattle.registry_core.proofs.KeptTraces.{IsRising, is_open_as, kept_too}
 
@@ -40,7 +42,7 @@ differs-users g traces same = record {
   opens = λ id. ap is_some (find-map_same (is_open_as id) g (open_kept id) traces)
       ∙ is_some-map g (open_trace traces id);
   traces = λ id u kept.
-      let one = map_found g (kept_trace traces id) u
+      let one = option_map_found g (kept_trace traces id) u
       (sym (find-map_same (has_id id) g (λ t. ap (λ n. eqb n id) (same t).0.id) traces) ∙ kept) in
       let t = one.0 in (
         t,
@@ -53,19 +55,12 @@ differs-users g traces same = record {
     open_kept : (id : ℕ) (t : Trace) → is_open_as id (g t) ≡ is_open_as id t
     open_kept id t = rw ((same t).0.id, (same t).2) refl
 
--- an open trace isn't over
-open_not_over : (a closing unused : Bool)
-    → ((a && not closing) && not (closing && unused)) ≡ (a && not closing)
-open_not_over true true unused = refl
-open_not_over true false unused = refl
-open_not_over false closing unused = refl
-
 -- nor is anything else told where those that are over are taken out
 pub differs-over : (old traces : List Trace) → IsRising traces → DiffersInUsers old traces
     → DiffersInUsers old (filter (λ t. not (is_over t)) traces)
 differs-over old traces rising differs = record {
   opens = λ id. ap is_some (find-filter (is_open_as id) (λ t. not (is_over t)) traces
-      ∙ find_agree _ _ (λ t. open_not_over (has_id id t) t.closing (eqb t.users 0)) traces)
+      ∙ find_agree _ _ (λ t. and_not-and (has_id id t) t.closing (eqb t.users 0)) traces)
       ∙ differs.opens id;
   traces = λ id u kept. differs.traces id u (kept_too (λ t. not (is_over t)) traces id u rising
       (sym (find-filter (has_id id) (λ t. not (is_over t)) traces) ∙ kept));

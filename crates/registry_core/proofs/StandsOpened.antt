@@ -7,16 +7,19 @@ use Rattle.std.specs.Option.{option_or}
 use Rattle.std.proofs.lemmas.Bool.{eq-eqb}
 use Rattle.std.proofs.lemmas.Option.{same_Some}
 use Rattle.std.proofs.lemmas.Bool.Decides.{eqb_tells, nat_tests}
-use Rattle.trace_base.proofs.Ranges.{range_with_len-more}
+use Rattle.list_lemmas.proofs.Filters.{count-empty}
+use Rattle.list_lemmas.proofs.Options.{or_None}
+use Rattle.list_lemmas.proofs.Positions.{slice_get-replicate}
+use Rattle.list_lemmas.proofs.Ranges.{range_with_len-more}
 use Rattle.trace_base.specs.declared.names.TraceInfo.{TraceInfo}
-use Rattle.node_key.proofs.HistoryMore.{count_more, info_more, opened_more, or_none, published_more}
-use Rattle.node_key.specs.History.{EntryOf, Opened, info_of, is_loading, is_open, opened_ids, published_count}
-use Rattle.node_key.specs.History.{published_of}
+use Rattle.hall_history.proofs.HistoryMore.{count_more, info_more, opened_more, published_more}
+use Rattle.hall_history.specs.History.{EntryOf, Opened, info_of, is_loading, is_open, opened_ids}
+use Rattle.hall_history.specs.History.{published_count, published_of}
 use Rattle.registry_core.proofs.KeepsMore.{promised_to, tracks_told}
 use Rattle.registry_core.proofs.KeptTraces.{kept_id}
 use Rattle.registry_core.proofs.LawEntries.{keeps_trace_of_others, open_of_others, opened_loads, opened_opens}
 use Rattle.registry_core.proofs.LawEntries.{promised_opened, untold_stays}
-use Rattle.registry_core.proofs.LawTraces.{count_empty, get_replicate, kept_above, kept_more, open_above}
+use Rattle.registry_core.proofs.LawTraces.{kept_above, kept_more, open_above}
 use Rattle.registry_core.proofs.LawTraces.{open_more}
 use Rattle.registry_core.specs.Loading.{with_opened}
 use Rattle.registry_core.specs.Registry.{IsSoundRegistry, RegistryValue, kept_trace, open_trace}
@@ -39,7 +42,7 @@ opened_new entries id info none = record {
       (λ o. option_or o (cond (eqb id id) (Some info) None)) none.info ∙ ap (λ b. cond b (Some info) None)
       (eq-eqb id id refl);
   count = count_more entries (Opened id info) id ∙ omega (arith, none.count);
-  published = λ track. published_more entries (Opened id info) id track ∙ or_none _ ∙ none.published track;
+  published = λ track. published_more entries (Opened id info) id track ∙ or_None _ ∙ none.published track;
   loading = opened_loads entries id info none;
 }
 
@@ -56,9 +59,9 @@ keeps_new : {X : Type 0} (are : RootsAre X) (start : Start) (entries : List (Ent
 keeps_new are start entries id info is = record {
   info = is.info;
   loading = sym is.loading;
-  count = count_empty TrackRoot (length info.names.tracks) ∙ sym is.count;
+  count = count-empty TrackRoot (length info.names.tracks) ∙ sym is.count;
   tracks = λ track slot at. keeps_none are start entries id track slot
-      (get_replicate (length info.names.tracks) track None slot at) (is.published track);
+      (slice_get-replicate (length info.names.tracks) track None slot at) (is.published track);
 }
 
 -- the traces that are open are those of the history
@@ -77,7 +80,7 @@ opens_more are start r entries info was id =
           (omega arith) in
           on ∙ sym (ap is_some (rw (none, same.0) at all))
       | inr other ↦ open_of_others entries (Opened r.next_id info) id other.0 ∙ was.opens id ∙ sym
-          (ap is_some (rw other.0 at all ∙ or_none (open_trace r.traces id)))
+          (ap is_some (rw other.0 at all ∙ or_None (open_trace r.traces id)))
     ]
 
 -- each trace keeps what is told of it
@@ -98,7 +101,7 @@ traces_more are start r entries info was id t kept =
           (opened_new entries r.next_id info (was.untold r.next_id (omega arith))))
       | inr other ↦
           let there : kept_trace r.traces id ≡ Some t =
-          sym (rw other.0 at all ∙ or_none (kept_trace r.traces id)) ∙ kept in
+          sym (rw other.0 at all ∙ or_None (kept_trace r.traces id)) ∙ kept in
           let here : t.id ≡ id = kept_id r.traces id t there in
           keeps_trace_of_others are start entries (Opened r.next_id info) t
           (ap (eqb r.next_id) here ∙ other.0) (was.traces id t there)

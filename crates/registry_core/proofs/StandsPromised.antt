@@ -6,12 +6,14 @@ use Rattle.std.specs.List.{range_with_len}
 use Rattle.std.proofs.lemmas.Bool.Decides.{eqb_tells, nat_tests}
 use Rattle.std.proofs.lemmas.List.{append-nil}
 use Rattle.std.proofs.lemmas.Option.{same_Some}
-use Rattle.node_key.proofs.HistoryMore.{opened_more, subject}
-use Rattle.node_key.specs.History.{EntryOf, ends, is_loading, opened_id, opened_ids}
-use Rattle.registry_core.proofs.FoundItems.{All-found, map_found}
+use Rattle.list_lemmas.proofs.All.{All-found}
+use Rattle.list_lemmas.proofs.Options.{option_map_found}
+use Rattle.hall_history.proofs.HistoryMore.{opened_more, subject}
+use Rattle.hall_history.specs.History.{EntryOf, ends, is_loading, opened_id, opened_ids}
+use Rattle.hall_history.proofs.HistoryFronts.{loading_open}
 use Rattle.registry_core.proofs.KeepsMore.{HasSlots, promise_kept, promised_to}
 use Rattle.registry_core.proofs.KeptTraces.{kept_id}
-use Rattle.registry_core.proofs.LawEntries.{keeps_trace_of_others, loading_open, open_stays, open_within}
+use Rattle.registry_core.proofs.LawEntries.{keeps_trace_of_others, open_stays, open_within}
 use Rattle.registry_core.proofs.LawEntries.{promised_more, untold_stays}
 use Rattle.registry_core.proofs.LawTraces.{KeepsId, KeepsOpen, changed_at, kept_changed, open_changed}
 use Rattle.registry_core.specs.Loading.{after_promised}
@@ -64,7 +66,7 @@ traces_promised : {X : Type 0} (are : RootsAre X) (start : Start) (r : RegistryV
     → kept_trace (with_changed (subject e) f r.traces) id ≡ Some u
     → KeepsTrace are start (entries ++ e ∷ []) u
 traces_promised are start r entries e f t was kept is id u now =
-    let from = map_found (changed_at (subject e) f) (kept_trace r.traces id) u
+    let from = option_map_found (changed_at (subject e) f) (kept_trace r.traces id) u
     (sym (kept_changed (subject e) f r.traces id is.keeps_id) ∙ now) in
     let old : Trace = from.0 in
     let here : old.id ≡ id = kept_id r.traces id old from.1 in

@@ -9,13 +9,15 @@ use Rattle.std.proofs.lemmas.Bool.Decides.{eqb_tells}
 use Rattle.std.proofs.lemmas.List.{length-set}
 use Rattle.std.proofs.lemmas.Option.{same_Some, slice_get_within}
 use Rattle.std.proofs.Math.Seq.{take-append_seam}
-use Rattle.node_key.proofs.HistoryMore.{count_more, info_more, or_none, published_more}
-use Rattle.node_key.specs.History.{EntryOf, Published, info_of, is_loading, published_count, published_of}
-use Rattle.registry_core.proofs.FoundItems.{All-found}
+use Rattle.list_lemmas.proofs.All.{All-found}
+use Rattle.list_lemmas.proofs.Filters.{count-filled}
+use Rattle.list_lemmas.proofs.Options.{or_None}
+use Rattle.list_lemmas.proofs.Positions.{slice_get-set_other, slice_get-set_within}
+use Rattle.hall_history.proofs.HistoryMore.{count_more, info_more, published_more}
+use Rattle.hall_history.specs.History.{EntryOf, Published, info_of, is_loading, published_count, published_of}
 use Rattle.registry_core.proofs.KeepsMore.{KeepsTrack-more}
 use Rattle.registry_core.proofs.KeptTraces.{kept_id}
 use Rattle.registry_core.proofs.LawEntries.{loading_published}
-use Rattle.registry_core.proofs.LawTraces.{count_filled, get_set_other, get_set_same}
 use Rattle.registry_core.proofs.SoundLoads.{promise-published}
 use Rattle.registry_core.proofs.StandsPromised.{IsPromised, IsPromised-from, stands-promised}
 use Rattle.registry_core.specs.Loading.{AwaitsTrack, with_published}
@@ -40,7 +42,7 @@ one_more : {X : Type 0} (entries : List (EntryOf X)) (id track : ℕ) (what : X)
 one_more entries id track what =
     let this = eq-eqb id id refl in
     record {
-      info = info_more entries (Published id track what) id ∙ or_none _;
+      info = info_more entries (Published id track what) id ∙ or_None _;
       count = count_more entries (Published id track what) id ∙ ap
           (λ b. published_count entries id + cond b 1 0) this;
       this = λ none. published_more entries (Published id track what) id track ∙ ap₂
@@ -48,7 +50,7 @@ one_more entries id track what =
           (λ b. cond b (Some what) None) (eq-eqb track track refl);
       others = λ other ne. published_more entries (Published id track what) id other ∙ ap₂
           (λ a b. option_or (published_of entries id other) (cond (a && b) (Some what) None)) this ne ∙
-          or_none _;
+          or_None _;
       loading = loading_published entries id track what id;
     }
 
@@ -87,18 +89,19 @@ keeps_published are start entries t track root what empty is place keeps =
     record {
       info = more.info ∙ keeps.info;
       loading = keeps.loading ∙ sym more.loading;
-      count = omega (arith, (count_filled t.tracks track root empty).0, keeps.count, more.count);
+      count = omega (arith, (count-filled t.tracks track root empty).0, keeps.count, more.count);
       tracks = λ other slot at.
           elim (eqb_tells track other) [
             | inl same ↦
                 let filled : Some root ≡ slot = same_Some (Some root) slot
-                (sym (get_set_same t.tracks track (Some root) within) ∙
+                (sym (slice_get-set_within t.tracks track (Some root) within) ∙
                 ap (slice_get (set t.tracks track (Some root))) same.1 ∙ at) in
                 subst (λ i. KeepsTrack are start new id i slot) same.1
                 (subst (KeepsTrack are start new id track) filled this)
             | inr off ↦ KeepsTrack-more are start entries (Published id track what) id other slot
                 (more.others other off.0)
-                (keeps.tracks other slot (sym (get_set_other t.tracks track other (Some root) off.1) ∙ at))
+                (keeps.tracks other slot (sym (slice_get-set_other t.tracks track other (Some root) off.1)
+                ∙ at))
           ];
     }
 

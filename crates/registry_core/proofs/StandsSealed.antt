@@ -1,9 +1,9 @@
 -- A registry that stands for a history still does after a load has ended.
 use Rattle.std.proofs.Common.{◌≡◌, ℕ, List, [], ◌∷◌, ◌++◌, length, Some, refl, sym}
 use Rattle.std.proofs.Common.{subst, IsTrue}
-use Rattle.node_key.proofs.HistoryMore.{data_sealed}
-use Rattle.node_key.specs.History.{EntryOf, Sealed}
-use Rattle.registry_core.proofs.FoundItems.{All-found}
+use Rattle.list_lemmas.proofs.All.{All-found}
+use Rattle.hall_history.proofs.HistoryMore.{data_sealed}
+use Rattle.hall_history.specs.History.{EntryOf, Sealed}
 use Rattle.registry_core.proofs.KeepsMore.{KeepsTrace-more}
 use Rattle.registry_core.proofs.KeptTraces.{kept_id}
 use Rattle.registry_core.proofs.LawEntries.{sealed_loaded}

@@ -3,7 +3,7 @@ use Rattle.std.proofs.Common.{ℕ, ◌+◌, ◌<◌, ◌≤◌, [], refl, arith}
 use Rattle.std.specs.List.Sorted.{IsStrictlySortedBy}
 use Rattle.std.proofs.lemmas.List.Elements.{All-nil}
 use Rattle.trace_base.specs.declared.limits.TheConstants.{MAX_PLACES}
-use Rattle.node_key.specs.History.{info_of, is_open, opened_ids, promised, published_count, published_of}
+use Rattle.hall_history.specs.History.{info_of, is_open, opened_ids, promised, published_count, published_of}
 use Rattle.registry_core.specs.Registry.{IsSoundRegistry, new_registry}
 use Rattle.registry_core.specs.Standing.{RootsAre, StandsFor}
 use Rattle.registry_core.specs.Trace.{IsSoundTrace, Trace}

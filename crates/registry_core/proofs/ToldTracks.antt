@@ -1,20 +1,25 @@
 -- What the slots of a kept trace tell is what the history tells.
 use Rattle.std.proofs.Common.{◌≡◌, ℕ, ◌+◌, ◌-◌, ◌<◌, ◌≤◌, inl, inr, Bool, true, false, ◌&&◌, ◌||◌, cond}
-use Rattle.std.proofs.Common.{eqb, leb, List, [], ◌∷◌, suc, zero, length, take, drop, filter, Option, None}
+use Rattle.std.proofs.Common.{eqb, leb, List, [], ◌∷◌, suc, zero, length, take, filter, Option, None}
 use Rattle.std.proofs.Common.{Some, refl, sym, ap, ◌∙◌, subst, arith}
 use Rattle.std.specs.Prelude.{count_by, is_some, slice_get}
-use Rattle.std.specs.List.{cons_option, filter_map, range_with_len}
-use Rattle.std.specs.Option.{option_and_then, option_or}
+use Rattle.std.specs.List.{filter_map, range_with_len}
+use Rattle.std.specs.Option.{option_and_then}
 use Rattle.std.proofs.Math.Path.{fun_ext}
 use Rattle.std.proofs.lemmas.Bool.{leb-true}
 use Rattle.std.proofs.lemmas.Bool.Decides.{eqb_tells, nat_tests}
-use Rattle.std.proofs.lemmas.List.{take-append-drop, take-take}
-use Rattle.std.proofs.lemmas.List.Sums.{sum_by-cons}
-use Rattle.trace_base.specs.declared.published.Published.TheVariants.{NotYet, Root}
-use Rattle.node_key.specs.History.{Asked, Closed, Dropped, EntryOf, Opened, Published, Sealed, published_as}
-use Rattle.node_key.specs.History.{published_count, published_of, publishes}
-use Rattle.node_key.proofs.HistoryMore.{first-append}
-use Rattle.node_key.proofs.Ranges.{Lacks, more, range_above, range_below}
+use Rattle.std.proofs.lemmas.List.{take-take}
+use Rattle.list_lemmas.proofs.AroundOne.{Lacks, more, range_above, range_below}
+use Rattle.list_lemmas.proofs.Booleans.{one_if}
+use Rattle.list_lemmas.proofs.Distinct.{EachOnce, once_more}
+use Rattle.list_lemmas.proofs.Filters.{count_by-cons, count_by-never, count_by-or}
+use Rattle.list_lemmas.proofs.Fronts.{length-cond}
+use Rattle.list_lemmas.proofs.Options.{cond_is_some, is_some-cons_option, none_before}
+use Rattle.list_lemmas.proofs.Positions.{past_end}
+use Rattle.hall_history.specs.declared.published.Published.TheVariants.{NotYet, Root}
+use Rattle.hall_history.specs.History.{Asked, Closed, Dropped, EntryOf, Opened, Published, Sealed}
+use Rattle.hall_history.specs.History.{published_as, published_count, published_of, publishes}
+use Rattle.hall_history.proofs.HistoryFronts.{none_yet, published_stays}
 use Rattle.registry_core.specs.Registry.{RegistryValue, kept_trace}
 use Rattle.registry_core.specs.Standing.{KeepsTrace, KeepsTrack, RootsAre, StandsFor, Start}
 use Rattle.registry_core.specs.Trace.{Trace, published_tracks, seen_by_place, told_of}
@@ -23,40 +28,17 @@ use Rattle.registry_core.proofs.KeptTraces.{kept_id}
 
 -- ---- a longer front tells no less
 
--- what some first entries tell is told by all
-published_stays : {X : Type 0} (entries : List (EntryOf X)) (n id track : ℕ) (what : X)
-    → published_of (take n entries) id track ≡ Some what → published_of entries id track ≡ Some what
-unfolding published_of
-published_stays entries n id track what at =
-    let first = λ (es : List (EntryOf _)). slice_get (filter_map (published_as id track) es) 0 in
-    ap first (sym (take-append-drop n entries))
-    ∙ first-append (published_as id track) (take n entries) (drop n entries)
-    ∙ ap (λ o. option_or o (first (drop n entries))) at
-
 -- what the first m entries tell is told by the first n
 pub published_later : {X : Type 0} (entries : List (EntryOf X)) (m n id track : ℕ) (what : X) → m ≤ n
     → published_of (take m entries) id track ≡ Some what → published_of (take n entries) id track ≡ Some what
 published_later entries m n id track what le at = published_stays (take n entries) m id track what
     (ap (λ es. published_of es id track) (take-take m n entries (omega arith)) ∙ at)
 
--- nothing is told first where nothing is told later
-none_if : {X : Type 0} (o p : Option X) → ((x : X) → o ≡ Some x → p ≡ Some x) → p ≡ None → o ≡ None
-none_if None p later none = refl
-none_if (Some x) p later none = absurd (some_differs x p (later x refl) none)
-  where
-    some_differs : {X : Type 0} (x : X) (p : Option X) → p ≡ Some x → p ≡ None → ⊥
-    some_differs x p is none = cc
-
 -- what the first n entries don't tell isn't told by the first m
 pub none_earlier : {X : Type 0} (entries : List (EntryOf X)) (m n id track : ℕ) → m ≤ n
     → published_of (take n entries) id track ≡ None → published_of (take m entries) id track ≡ None
-none_earlier entries m n id track le none = none_if _ _
+none_earlier entries m n id track le none = none_before _ _
     (λ what at. published_later entries m n id track what le at) none
-
--- what all entries don't tell isn't told by the first of them
-pub none_yet : {X : Type 0} (entries : List (EntryOf X)) (n id track : ℕ)
-    → published_of entries id track ≡ None → published_of (take n entries) id track ≡ None
-none_yet entries n id track none = none_if _ _ (λ what at. published_stays entries n id track what at) none
 
 -- ---- no more tracks are published than entries say
 
@@ -64,82 +46,25 @@ none_yet entries n id track none = none_if _ _ (λ what at. published_stays entr
 abbrev pub published_among : {X : Type 0} → List (EntryOf X) → ℕ → List ℕ → ℕ
 published_among entries id tracks = count_by (λ track. is_some (published_of entries id track)) tracks
 
--- no number stands twice in the list
-abbrev pub EachOnce : List ℕ → Type 0
-EachOnce xs = (x : ℕ) → count_by (eqb x) xs ≤ 1
-
--- 1 where the test passes
-abbrev one_if : Bool → ℕ
-one_if b = cond b 1 0
-
--- a count over a list with one item in front
-count-cons : {X : Type 0} (p : X → Bool) (x : X) (xs : List X)
-    → count_by p (x ∷ xs) ≡ one_if (p x) + count_by p xs
-count-cons p x xs = sum_by-cons (λ y. cond (p y) 1 0) x xs
-
--- one of two tests counts at most as both do
-or_at_most : (a b : Bool) → one_if (a || b) ≤ one_if a + one_if b
-or_at_most true b = omega arith
-or_at_most false b = omega arith
-
--- numbers that pass one of two tests are at most those that pass the first and those that pass the second
-count_or : (p q : ℕ → Bool) (xs : List ℕ) → count_by (λ x. p x || q x) xs ≤ count_by p xs + count_by q xs
-count_or p q [] = omega arith
-count_or p q (x ∷ xs) = omega (
-  arith,
-  count_or p q xs,
-  or_at_most (p x) (q x),
-  count-cons (λ y. p y || q y) x xs,
-  count-cons p x xs,
-  count-cons q x xs,
-)
-
--- whether there is a first item, with one more in front that may be none
-some_first : {X : Type 0} (o : Option X) (xs : List X)
-    → is_some (slice_get (cons_option o xs) 0) ≡ (is_some o || is_some (slice_get xs 0))
-some_first None xs = refl
-some_first (Some x) xs = refl
-
--- a value that is given by a test is there where the test passes
-some_cond : {X : Type 0} (b : Bool) (x : X) → is_some (cond b (Some x) None) ≡ b
-some_cond true x = refl
-some_cond false x = refl
-
--- nothing passes a test that always fails
-count_none : (xs : List ℕ) → count_by (λ x. false) xs ≡ 0
-count_none [] = refl
-count_none (x ∷ xs) = omega (arith, count_none xs, count-cons (λ x. false) x xs)
-
--- where each number stands once, at most one passes the test for a number
-once_more : (b : Bool) (x : ℕ) (xs : List ℕ) → EachOnce xs → count_by (λ y. b && eqb x y) xs ≤ one_if b
-once_more true x xs once = once x
-once_more false x xs once = omega (arith, count_none xs)
-
--- the length of a list with an item in front that a test adds
-length_more : {X : Type 0} (b : Bool) (x : X) (xs : List X)
-    → length (cond b (x ∷ xs) xs) ≡ one_if b + length xs
-length_more true x xs = omega arith
-length_more false x xs = omega arith
-
 -- entries publish at least as many tracks of a trace as are told among different ones
 at_most : {X : Type 0} (entries : List (EntryOf X)) (id : ℕ) (tracks : List ℕ) → EachOnce tracks
     → published_among entries id tracks ≤ published_count entries id
 unfolding published_of published_count
-at_most [] id tracks once = omega (arith, count_none tracks)
+at_most [] id tracks once = omega (arith, count_by-never tracks)
 at_most {X} (Published other which what ∷ entries) id tracks once =
     let this : ℕ → Bool = λ track. eqb other id && eqb which track in
     let before : ℕ → Bool = λ track. is_some (published_of entries id track) in
     let either : ℕ → Bool = λ track. this track || before track in
     let now : ℕ → Bool = λ track. is_some (published_of (Published other which what ∷ entries) id track) in
     let tests : now ≡ either = fun_ext (λ track.
-    some_first (cond (this track) (Some what) None) (filter_map (published_as id track) entries)
-    ∙ ap (λ b. b || before track) (some_cond (this track) what)) in
+    is_some-cons_option (cond (this track) (Some what) None) (filter_map (published_as id track) entries)
+    ∙ ap (λ b. b || before track) (cond_is_some (this track) what)) in
     omega (
       arith,
       ap (λ p. count_by p tracks) tests,
-      count_or this before tracks,
+      count_by-or this before tracks,
       once_more (eqb other id) which tracks once,
-      length_more (eqb other id) (Published other which what) (filter (publishes id) entries),
+      length-cond (eqb other id) (Published other which what) (filter (publishes id) entries),
       at_most entries id tracks once,
     )
 at_most (Opened other info ∷ entries) id tracks once = at_most entries id tracks once
@@ -154,13 +79,13 @@ at_most (Asked ∷ entries) id tracks once = at_most entries id tracks once
 count_lacks : (x : ℕ) (xs : List ℕ) → Lacks x xs → count_by (eqb x) xs ≡ 0
 count_lacks x [] lacks = refl
 count_lacks x (y ∷ ys) (more z zs other rest) =
-    omega (arith, count-cons (eqb x) y ys, ap one_if other, count_lacks x ys rest)
+    omega (arith, count_by-cons (eqb x) y ys, ap one_if other, count_lacks x ys rest)
 
 -- each number of a range stands in it once
 range_once : (a n : ℕ) → EachOnce (range_with_len a n)
 range_once a zero x = omega arith
 range_once a (suc n) x =
-    let first = count-cons (eqb x) a (range_with_len (a + 1) n) in
+    let first = count_by-cons (eqb x) a (range_with_len (a + 1) n) in
     elim (eqb_tells x a) [
       | inl same ↦ omega (
         arith,
@@ -174,7 +99,7 @@ range_once a (suc n) x =
 -- so it is with one number in front that lies past the range
 past_once : (y n : ℕ) → n ≤ y → EachOnce (y ∷ range_with_len 0 n)
 past_once y n le x =
-    let first = count-cons (eqb x) y (range_with_len 0 n) in
+    let first = count_by-cons (eqb x) y (range_with_len 0 n) in
     elim (eqb_tells x y) [
       | inl same ↦ omega (
         arith,
@@ -202,8 +127,8 @@ slots_counted told a (slot ∷ slots) each =
       arith,
       rest,
       ap one_if here,
-      count-cons is_some slot slots,
-      count-cons (λ track. is_some (told track)) a (range_with_len (a + 1) (length slots)),
+      count_by-cons is_some slot slots,
+      count_by-cons (λ track. is_some (told track)) a (range_with_len (a + 1) (length slots)),
     )
 
 -- a slot is published where its track is told
@@ -213,12 +138,6 @@ slot_tells : {X : Type 0} (are : RootsAre X) (start : Start) (entries : List (En
 slot_tells are start entries id track None keeps = ap is_some (sym keeps)
 slot_tells are start entries id track (Some r) (what, is, from, by) = ap is_some
     (sym (published_stays entries _ id track what by.from))
-
--- there is nothing at an index only past the end
-past_end : {X : Type 0} (xs : List X) (i : ℕ) → slice_get xs i ≡ None → length xs ≤ i
-past_end [] i at = omega arith
-past_end (x ∷ xs) zero at = absurd cc
-past_end (x ∷ xs) (suc i) at = omega (arith, past_end xs i at)
 
 -- of a track that the trace doesn't have nothing is published
 pub none_past_slots : {X : Type 0} (are : RootsAre X) (start : Start) (entries : List (EntryOf X)) (t : Trace)
@@ -239,7 +158,7 @@ none_past_slots {X} are start entries t track keeps past = by (published_of entr
       keeps.count,
       at_most entries t.id (track ∷ range_with_len 0 (length t.tracks))
           (past_once track (length t.tracks) past),
-      count-cons (λ n. is_some (published_of entries t.id n)) track (range_with_len 0 (length t.tracks)),
+      count_by-cons (λ n. is_some (published_of entries t.id n)) track (range_with_len 0 (length t.tracks)),
       ap (λ o. one_if (is_some o)) is,
     ))
 

@@ -1,25 +1,27 @@
 -- Lists of traces of which the numbers of users change, and those that are over then.
 use Rattle.std.proofs.Common.{◌≡◌, ℕ, ◌+◌, ◌-◌, ◌<◌, ◌≤◌, Bool, true, false, cond, not, ◌&&◌, ◌||◌, eqb}
-use Rattle.std.proofs.Common.{◌==◌, if◌then◌else◌, ◌⊎◌, inl, inr, List, [], ◌∷◌, map, filter, length, get_or}
-use Rattle.std.proofs.Common.{All, Contains, sum_by, count_by, None, Some, option_map, refl, sym, ap, ap₂}
+use Rattle.std.proofs.Common.{◌==◌, if◌then◌else◌, inl, inr, List, [], ◌∷◌, map, filter, length, get_or}
+use Rattle.std.proofs.Common.{All, sum_by, None, Some, option_map, refl, sym, ap, ap₂}
 use Rattle.std.proofs.Common.{◌∙◌, arith}
 use Rattle.std.specs.List.{find}
 use Rattle.std.proofs.lemmas.Bool.{and_parts, eq-eqb, eqb-true, not-false, or_right}
 use Rattle.std.proofs.lemmas.Bool.Decides.{eqb_tells, nat_tests}
-use Rattle.std.proofs.lemmas.List.Elements.{All-contains, All-map, Contains-append_right}
+use Rattle.std.proofs.lemmas.List.Elements.{All-contains, All-map}
 use Rattle.std.proofs.lemmas.List.Folds.{fold-map}
-use Rattle.std.proofs.lemmas.List.Sums.{count_by-le-length, sum_by-cons}
+use Rattle.std.proofs.lemmas.List.Sums.{count_by-le-length}
 use Rattle.std.proofs.lemmas.Option.{same_Some}
 use Rattle.std.proofs.lemmas.Simd.{map-map}
-use Rattle.trace_base.specs.declared.asks.AskIds.{AskIds}
-use Rattle.trace_base.specs.declared.asks.AskIds.TheVariants.{One, Two}
+use Rattle.list_lemmas.proofs.Booleans.{not_and-either, not_and-implied}
+use Rattle.list_lemmas.proofs.Found.{find-filter_same}
+use Rattle.list_lemmas.proofs.Members.{has_or_not}
+use Rattle.hall_history.specs.declared.asks.AskIds.{AskIds}
+use Rattle.hall_history.specs.declared.asks.AskIds.TheVariants.{One, Two}
 use Rattle.registry_core.specs.Asking.{AreUsed, asked_ids, times_asked, without_users}
 use Rattle.registry_core.specs.Registry.{IsSoundRegistry, RegistryValue, has_id, is_open_trace, kept_trace}
 use Rattle.registry_core.specs.Registry.{open_count}
 use Rattle.registry_core.specs.Trace.{IsSoundTrace, Trace, is_over, promise_of, published_tracks, roots_in}
 use Rattle.registry_core.specs.Trace.{used_less}
 use Rattle.registry_core.proofs.FilteredLists.{filter-filter, filter_agrees}
-use Rattle.registry_core.proofs.FoundItems.{find-filter_same}
 use Rattle.registry_core.proofs.KeptTraces.{kept_each}
 
 -- ---- numbers of users
@@ -47,26 +49,13 @@ pub times_asked-le : (ids : AskIds) (id : ℕ) → times_asked ids id ≤ 2
 times_asked-le (One a) id = omega (arith, count_by-le-length (λ x. eqb x id) (a ∷ []))
 times_asked-le (Two a b) id = omega (arith, count_by-le-length (λ x. eqb x id) (a ∷ b ∷ []))
 
--- an id isn't among the ones that are asked for, or it is
-asked_or_not : (id : ℕ) (xs : List ℕ) → (count_by (λ x. eqb x id) xs ≡ 0) ⊎ Contains xs id
-asked_or_not id [] = inl refl
-asked_or_not id (x ∷ xs) =
-    elim (asked_or_not id xs) [
-      | inr later ↦ inr (Contains-append_right (x ∷ []) xs id later)
-      | inl none ↦ elim (eqb_tells x id) [
-        | inl same ↦ inr (0, omega arith, same.1)
-        | inr other ↦ inl (sum_by-cons (λ x. cond (eqb x id) 1 0) x xs
-            ∙ ap₂ ◌+◌ (ap {B = ℕ} (λ b. cond b 1 0) other.0) none)
-      ]
-    ]
-
 -- where traces are in use, each has as many users as times it is named
 pub used_each : (r : RegistryValue) (ids : AskIds) → IsSoundRegistry r → AreUsed r ids
     → All (λ (t : Trace). times_asked ids t.id ≤ t.users) r.traces
 used_each r ids sound used k d lt =
     let t = get_or r.traces k d in
     let kept : kept_trace r.traces t.id ≡ Some t = kept_each r.traces sound.rising k d lt in
-    elim (asked_or_not t.id (asked_ids ids)) [
+    elim (has_or_not t.id (asked_ids ids)) [
       | inl none ↦ omega (arith, none)
       | inr asked ↦
           let u = All-contains (λ id. (t : Trace) × (kept_trace r.traces id ≡ Some t)
@@ -96,21 +85,6 @@ pub over_closing : (t : Trace) → not (is_over t) ≡ false → ◌≡◌ {A = 
 over_closing t over =
     let parts = and_parts t.closing (eqb t.users 0) (not-false (is_over t) over) in
     ap (λ b. cond (not b) 1 0) parts.0
-
--- a test for what is over may leave out an id that all of it has
-over_if_named : (o h : Bool) → (o ≡ true → h ≡ true) → not (h && o) ≡ not o
-over_if_named false true named = refl
-over_if_named false false named = refl
-over_if_named true h named = ap (λ b. not (b && true)) (named refl)
-
--- or two ids, of which all of it has one
-over_if_either : (o g h : Bool) → (o ≡ true → (g || h) ≡ true) → (not (g && o) && not (h && o)) ≡ not o
-over_if_either false true true named = refl
-over_if_either false true false named = refl
-over_if_either false false true named = refl
-over_if_either false false false named = refl
-over_if_either true true h named = refl
-over_if_either true false h named = ap (λ b. not (b && true)) (named refl)
 
 -- where one id is named, an id that is named is that one
 only_named : (a id : ℕ) → 0 < times_asked (One a) id → eqb id a ≡ true
@@ -142,7 +116,7 @@ kept_but_one place a traces sound = filter_agrees (λ t. not (has_id a t && is_o
     (All-map (λ t. not (has_id a t && is_over t) ≡ not (is_over t))
     (λ t. used_less (times_asked (One a) t.id) t) traces
     (λ k d lt. let t = get_or traces k d in
-    over_if_named (is_over (used_less (times_asked (One a) t.id) t)) (has_id a t)
+    not_and-implied (is_over (used_less (times_asked (One a) t.id) t)) (has_id a t)
     (λ over. only_named a t.id (over_named place (One a) t (sound k d lt) over))))
 
 -- where two traces were named, only those can be over
@@ -157,7 +131,7 @@ kept_but_two place a b traces sound = filter-filter (λ t. not (has_id a t && is
     (All-map (λ t. (not (has_id a t && is_over t) && not (has_id b t && is_over t)) ≡ not (is_over t))
     (λ t. used_less (times_asked (Two a b) t.id) t) traces
     (λ k d lt. let t = get_or traces k d in
-    over_if_either (is_over (used_less (times_asked (Two a b) t.id) t)) (has_id a t) (has_id b t)
+    not_and-either (is_over (used_less (times_asked (Two a b) t.id) t)) (has_id a t) (has_id b t)
     (λ over. either_named a b t.id (over_named place (Two a b) t (sound k d lt) over))))
 
 -- what is over and has the second id was kept before, unless both ids are the same

@@ -3,19 +3,16 @@ use Rattle.std.proofs.Common.{◌≡◌, ℕ, ◌+◌, ◌-◌, ◌<◌, ◌≤�
 use Rattle.std.proofs.Common.{arith, inl, inr, Some}
 use Rattle.std.specs.List.{All}
 use Rattle.std.proofs.lemmas.Bool.{cases_Bool, cond-true, cond-false, eq-eqb}
-use Rattle.std.proofs.lemmas.Bool.Decides.{nat_tests}
 use Rattle.std.proofs.lemmas.Simd.{map-map}
-use Rattle.trace_base.specs.declared.asks.AskIds.TheVariants.{One, Two}
+use Rattle.list_lemmas.proofs.All.{All-found}
+use Rattle.list_lemmas.proofs.Maps.{map_agree}
+use Rattle.list_lemmas.proofs.Numbers.{eqb_flip}
+use Rattle.hall_history.specs.declared.asks.AskIds.TheVariants.{One, Two}
 use Rattle.registry_core.specs.Asking.{times_asked, with_users, without_users}
 use Rattle.registry_core.specs.Registry.{has_id, kept_trace, with_changed}
 use Rattle.registry_core.specs.Trace.{Trace, used_less, used_more}
-use Rattle.registry_core.proofs.FoundItems.{All-found}
 use Rattle.registry_core.proofs.KeptTraces.{All-with_changed, kept_id}
 use Rattle.registry_core.proofs.LawTraces.{KeepsId}
-
--- a test for the same number, either way round
-eqb_flip : (a b : ℕ) → eqb a b ≡ eqb b a
-eqb_flip a b = grind (arith, nat_tests)
 
 -- one id is asked for once
 times_one : (a id : ℕ) → times_asked (One a) id ≡ cond (eqb id a) 1 0
@@ -28,10 +25,6 @@ times_two a b id = omega (
   ap {B = ℕ} (λ x. cond x 1 0) (eqb_flip a id),
   ap {B = ℕ} (λ x. cond x 1 0) (eqb_flip b id),
 )
-
--- functions that are the same make the same of a list
-same_map : {X Y : Type 0} (f g : X → Y) → ((x : X) → f x ≡ g x) → (xs : List X) → map f xs ≡ map g xs
-same_map f g same xs = λ i. map (λ x. same x i) xs
 
 -- traces that are used so many times more, or fewer, once for each time that their id is named
 module _ (use_by : ℕ → Trace → Trace) (none : (t : Trace) → use_by 0 t ≡ t)
@@ -62,7 +55,7 @@ module _ (use_by : ℕ → Trace → Trace) (none : (t : Trace) → use_by 0 t �
   used_twice : (a b : ℕ) (traces : List Trace)
       → with_changed b (use_by 1) (with_changed a (use_by 1) traces)
       ≡ map (λ t. use_by (times_asked (Two a b) t.id) t) traces
-  used_twice a b traces = map-map _ _ traces ∙ same_map _ _ (λ t. elim (cases_Bool (eqb t.id a)) [
+  used_twice a b traces = map-map _ _ traces ∙ map_agree _ _ (λ t. elim (cases_Bool (eqb t.id a)) [
     | inl hit ↦
         let first = cond-true (eqb t.id a) (use_by 1 t) t hit in
         let one : ◌≡◌ {A = ℕ} (cond (eqb t.id a) 1 0) 1 = ap (λ x. cond x 1 0) hit in

@@ -3,8 +3,8 @@ use Rattle.std.specs.Prelude.{◌≡◌, ℕ, ◌+◌, ◌≤◌, ◌==◌, ◌&
 use Rattle.std.specs.Prelude.{All, count_by, filter, map, Option, None, Some, is_some}
 use Rattle.std.specs.List.{find}
 use Rattle.std.specs.Option.{option_map}
-use Rattle.trace_base.specs.declared.asks.AskIds.{AskIds}
-use Rattle.trace_base.specs.declared.asks.AskIds.TheVariants.{One, Two}
+use Rattle.hall_history.specs.declared.asks.AskIds.{AskIds}
+use Rattle.hall_history.specs.declared.asks.AskIds.TheVariants.{One, Two}
 use Rattle.registry_core.specs.declared.answers.RegAsk.{RegAsk}
 use Rattle.registry_core.specs.declared.answers.RegAsk.TheVariants.{Pinned, Spent, Unknown}
 use Rattle.registry_core.specs.declared.answers.RegUnpin.{RegUnpin}

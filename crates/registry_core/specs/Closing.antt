@@ -1,8 +1,8 @@
 -- What the registry answers to who closes a trace or lists them, and what becomes of it.
 use Rattle.std.specs.Prelude.{◌≡◌, ℕ, ◌+◌, ◌<◌, false, List, filter, map, None, Some, Result, Ok, Err}
 use Rattle.std.specs.Prelude.{IsTrue}
-use Rattle.trace_base.specs.declared.listing.ListRow.{ListRow}
-use Rattle.trace_base.specs.declared.listing.Listing.{Listing}
+use Rattle.hall_history.specs.declared.listing.ListRow.{ListRow}
+use Rattle.hall_history.specs.declared.listing.Listing.{Listing}
 use Rattle.registry_core.specs.declared.answers.RegClose.{RegClose}
 use Rattle.registry_core.specs.declared.answers.RegClose.TheVariants as close
 use Rattle.registry_core.specs.declared.answers.RegFault.{RegFault}

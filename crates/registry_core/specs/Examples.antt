@@ -2,7 +2,7 @@
 use Rattle.std.specs.Prelude.{◌≡◌, ℕ, ◌<◌, true, false, All, List, [], ◌∷◌, Option, None, Some, codes}
 use Rattle.trace_base.specs.LegalExamples.{one_process, track_of_kind, with_functions, with_message}
 use Rattle.trace_base.specs.LegalExamples.{with_tracks}
-use Rattle.trace_base.specs.declared.listing.ListRow.{ListRow}
+use Rattle.hall_history.specs.declared.listing.ListRow.{ListRow}
 use Rattle.trace_base.specs.declared.names.TraceInfo.{TraceInfo}
 use Rattle.registry_core.specs.Registry.{RegistryValue, kept_trace, new_registry}
 use Rattle.registry_core.specs.Trace.{Trace}

@@ -3,11 +3,11 @@
 use Rattle.std.specs.Prelude.{◌≡◌, ℕ, ◌+◌, ◌-◌, ◌≤◌, false, List, length, slice_get, take}
 use Rattle.std.specs.Prelude.{Option, None, Some, is_some}
 use Rattle.std.specs.List.{list_any, range_with_len}
-use Rattle.node_key.specs.History.{EntryOf, PublishedTree, ends, info_of}
-use Rattle.node_key.specs.History.{is_loading, is_open, opened_ids, promised}
-use Rattle.node_key.specs.History.{published_count, published_of, seals, tracks_of}
+use Rattle.hall_history.specs.History.{EntryOf, PublishedTree, ends, info_of}
+use Rattle.hall_history.specs.History.{is_loading, is_open, opened_ids, promised}
+use Rattle.hall_history.specs.History.{published_count, published_of, seals, tracks_of}
 use Rattle.node_key.specs.Stands.{KeyAt, Stands}
-use Rattle.trace_base.specs.declared.listing.ListRow.{ListRow}
+use Rattle.hall_history.specs.declared.listing.ListRow.{ListRow}
 use Rattle.registry_core.specs.declared.track_root.TrackRoot.{TrackRoot}
 use Rattle.registry_core.specs.Registry.{IsSoundRegistry, RegistryValue, kept_trace, open_trace}
 use Rattle.registry_core.specs.Trace.{Trace, published_tracks}

@@ -9,9 +9,9 @@ use Rattle.std.specs.Option.{option_and_then, option_map}
 use Rattle.trace_base.specs.Info.{IsLegalInfo}
 use Rattle.trace_base.specs.contracts.names.TraceInfo as trace_info
 use Rattle.trace_base.specs.declared.names.TraceInfo.{TraceInfo}
-use Rattle.trace_base.specs.declared.published.Published.{Published}
-use Rattle.trace_base.specs.declared.published.Published.TheVariants.{Root, NotYet}
-use Rattle.trace_base.specs.declared.listing.ListRow.{ListRow}
+use Rattle.hall_history.specs.declared.published.Published.{Published}
+use Rattle.hall_history.specs.declared.published.Published.TheVariants.{Root, NotYet}
+use Rattle.hall_history.specs.declared.listing.ListRow.{ListRow}
 use Rattle.registry_core.specs.contracts.track_root.TrackRoot as track_root
 use Rattle.registry_core.specs.declared.track_root.TrackRoot.{TrackRoot}
 

@@ -1,8 +1,8 @@
 //! The definitions, computed on small registries. Each clause is the equation or the relation; the bodies are
 //! empty.
 ghost use Rattle.std.specs.Prelude.{◌≡◌, ℕ, Err, None, Ok, Some, [], ◌∷◌};
-ghost use Rattle.trace_base.specs.declared.asks.AskIds.TheVariants.{One, Two};
-ghost use Rattle.trace_base.specs.declared.published.Published.TheVariants.{NotYet, Root};
+ghost use Rattle.hall_history.specs.declared.asks.AskIds.TheVariants.{One, Two};
+ghost use Rattle.hall_history.specs.declared.published.Published.TheVariants.{NotYet, Root};
 ghost use Rattle.registry_core.specs.Asking.{AsksIn, HaveSameNames, after_unpin, first_unknown};
 ghost use Rattle.registry_core.specs.Asking.{times_asked, unpinned};
 ghost use Rattle.registry_core.specs.Closing.{ClosesIn, ListsIn};

@@ -8,10 +8,11 @@ ghost use Rattle.registry_core.specs.Trace.{with_root};
 
 use crate::roots::Roots;
 use crate::track_root::TrackRoot;
+use hall_history::{ListRow, Published};
 use std::alloc::Global;
 use std::marker::Model;
 use std::sync::Arc;
-use trace_base::{ListRow, Memory, Published, TraceInfo};
+use trace_base::{Memory, TraceInfo};
 
 /// A trace as the registry keeps it, with its published tracks counted.
 #[derive(Drop)]

@@ -3,13 +3,13 @@
 ghost use Rattle.std.specs.Prelude.{◌≡◌, ◌+◌, ◌-◌, ◌≤◌, [], ◌∷◌, ◌++◌, ℕ, List, Ok, Err, None, Some, length};
 ghost use Rattle.std.specs.Prelude.{map, take};
 ghost use Rattle.trace_base.specs.Info.{IsLegalInfo};
-ghost use Rattle.trace_base.specs.declared.asks.AskIds.{AskIds};
+ghost use Rattle.hall_history.specs.declared.asks.AskIds.{AskIds};
 ghost use Rattle.trace_base.specs.declared.limits.TheConstants.{MAX_PLACES};
-ghost use Rattle.trace_base.specs.declared.listing.Listing.{Listing};
+ghost use Rattle.hall_history.specs.declared.listing.Listing.{Listing};
 ghost use Rattle.trace_base.specs.declared.names.TraceInfo.{TraceInfo};
-ghost use Rattle.trace_base.specs.declared.published.Published.TheVariants as told;
-ghost use Rattle.node_key.specs.History.{Asked, Closed, Dropped, Entry, Opened, Published, PublishedTree};
-ghost use Rattle.node_key.specs.History.{Sealed, open_ids, published_of};
+ghost use Rattle.hall_history.specs.declared.published.Published.TheVariants as told;
+ghost use Rattle.hall_history.specs.History.{Asked, Closed, Dropped, Entry, Opened, Published, PublishedTree};
+ghost use Rattle.hall_history.specs.History.{Sealed, open_ids, published_of};
 ghost use Rattle.node_key.specs.Stands.{KeyAt, Stands};
 ghost use Rattle.node_key.specs.Tree.{Tree};
 ghost use Rattle.registry_core.specs.Asking.{AreUsed, AsksIn, after_unpin};

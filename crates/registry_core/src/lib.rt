@@ -9,8 +9,6 @@ mod laws;
 mod registry;
 mod roots;
 mod same_names;
-#[cfg(test)]
-mod tests;
 mod traces;
 mod track_root;
 

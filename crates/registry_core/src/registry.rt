@@ -18,12 +18,11 @@ use crate::kept_trace::KeptTrace;
 use crate::same_names::are_same;
 use crate::traces::Traces;
 use crate::track_root::TrackRoot;
+use hall_history::{AskIds, Brief, Listing, Published};
 use std::alloc::Global;
 use std::marker::Model;
 use std::sync::Arc;
-use trace_base::{
-    AskIds, Brief, Listing, MAX_OPEN_TRACES, MAX_PLACES, Memory, Published, TraceInfo,
-};
+use trace_base::{MAX_OPEN_TRACES, MAX_PLACES, Memory, TraceInfo};
 
 /// The traces of a hall, and the places of its history. Places and ids are given once.
 #[derive(Drop)]

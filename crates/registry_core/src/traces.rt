@@ -12,10 +12,11 @@ ghost use Rattle.registry_core.specs.Trace.{used_less, used_more, with_root};
 use crate::kept_trace::KeptTrace;
 use crate::roots::Roots;
 use crate::track_root::TrackRoot;
+use hall_history::{AskIds, ListRow};
 use std::alloc::Global;
 use std::collections::BTreeMap;
 use std::marker::Model;
-use trace_base::{AskIds, ListRow, Memory, Seq};
+use trace_base::{Memory, Seq};
 
 /// The traces of a registry, found by their ids.
 #[derive(Drop)]

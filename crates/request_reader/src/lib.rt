@@ -11,8 +11,6 @@ mod read_line;
 mod read_text;
 mod reader;
 mod skip;
-#[cfg(test)]
-mod tests;
 
 pub use buffer::InputBuf;
 pub use incoming::{Incoming, InputEnd};

@@ -5,8 +5,6 @@ mod examples;
 mod number;
 mod reply;
 mod request;
-#[cfg(test)]
-mod tests;
 mod words;
 mod write;
 

@@ -1,8 +1,7 @@
 -- Where a number and a key stand, and what becomes of the tables when a key is entered.
-use Rattle.std.proofs.Common.{◌≡◌, ℕ, ◌<◌, Bool, true, false, List, length, nat_eq}
-use Rattle.std.proofs.Common.{slice_get, Option, Some, None, refl, sym, ap, ◌∙◌, subst, arith}
-use Rattle.std.proofs.Common.{get_or, position, IfSome, IfNone, is_some, true≢false, unwrap_or}
-use Rattle.std.specs.Prelude.{not}
+use Rattle.std.proofs.Common.{◌≡◌, ℕ, ◌<◌, true, false, List, length, nat_eq}
+use Rattle.std.proofs.Common.{slice_get, Option, Some, None, sym, ap, ◌∙◌, subst, arith}
+use Rattle.std.proofs.Common.{get_or, position, IfSome, IfNone, is_some, unwrap_or}
 use Rattle.std.specs.List.{list_any, IsDistinct}
 use Rattle.std.specs.Option.{option_map}
 use Rattle.std.specs.Map.{keys_of, lookup}
@@ -105,15 +104,6 @@ there_seen ks ks' es v k x i is e kept below at same =
         (let s : Stored = record { key = y; count = h.pair.1 } in s),
       )) (sym equal),
     )
-
--- what a test said
-pub there_from : (new had : Bool) → new ≡ not had → new ≡ false → had ≡ true
-there_from new true is off = refl
-there_from new false is off = absurd (true≢false (sym is ∙ off))
-
-pub absent_from : (new had : Bool) → new ≡ not had → new ≡ true → had ≡ false
-absent_from new false is on = refl
-absent_from new true is on = absurd (true≢false (sym on ∙ is))
 
 -- a number that no entry has, the table of counts hasn't either
 pub fresh_count : (ks : List HashedKey) (es : List (ℕ × ℕ)) (v : List (ℕ × Stored)) (n : ℕ)

@@ -1,19 +1,16 @@
 -- The nodes in the order of the tables, and the map that they are.
-use Rattle.std.proofs.Common.{◌≡◌, ℕ, ◌+◌, Bool, true, false, cond, List, [], ◌∷◌, ◌++◌}
+use Rattle.std.proofs.Common.{◌≡◌, ℕ, ◌+◌, cond, List, [], ◌∷◌, ◌++◌}
 use Rattle.std.proofs.Common.{length}
 use Rattle.std.proofs.Common.{slice_get, Some, None, refl, sym, ap, ◌∙◌, arith, nat_eq}
 use Rattle.std.proofs.Common.{is_some}
-use Rattle.std.proofs.Common.{true≢false, ◌<◌}
-use Rattle.std.specs.Prelude.{nat_lt}
+use Rattle.std.proofs.Common.{true≢false}
 use Rattle.std.specs.Cmp.{nat_cmp_total, nat_eq_equiv}
 use Rattle.std.specs.FinMap as map
 use Rattle.std.specs.FinMap.{get-from_entries, get-insert, get-remove, same_map, nat_cmp-IsAntisymmetric}
 use Rattle.std.specs.FinMap.{from_entries_push, find, len-insert, len-empty}
 use Rattle.std.specs.List.{IsDistinct, swap_remove}
 use Rattle.std.specs.Map.{keys_of, lookup}
-use Rattle.std.specs.Ordering.{nat_cmp, eq_by_cmp, is_eq}
-use Rattle.std.specs.declared.cmp.Ordering.TheVariants.{Less, Equal, Greater}
-use Rattle.std.proofs.lemmas.Bool.{eqb-true}
+use Rattle.std.specs.Ordering.{nat_cmp}
 use Rattle.std.proofs.lemmas.Map.Entries.{lookup_from_place, place_from_lookup}
 use Rattle.std.proofs.lemmas.Map.Keys.{IsDistinct-head, IsDistinct-tail, any_passes_from_place}
 use Rattle.indexmap.specs.IndexMap.{set_value_at}
@@ -22,28 +19,15 @@ use Rattle.indexmap.proofs.CallerLemmas.{updates-with_value_at}
 use Rattle.indexmap.proofs.MapLemmas.{index-first}
 use Rattle.indexmap.proofs.RemoveLemmas.{swap_out, own_first}
 use Rattle.std_collections.proofs.HashLookup.{lookup-IsAbsent}
+use Rattle.list_lemmas.proofs.Numbers.{nat_tie, nat_tie_back}
 use Rattle.node_key.specs.declared.key.NodeKey.{NodeKey}
 use Rattle.shard_core.specs.Listed.{LacksKey}
 use Rattle.shard_core.specs.Room.{Stored, IsThere, node_at, room_of}
 use Rattle.shard_core.specs.SameKey.{same_key, same_key-equiv}
 
-tied : (x y : ℕ) (b e : Bool) → nat_lt x y ≡ b → nat_eq x y ≡ e
-    → is_eq (cond b Less (cond e Equal Greater)) ≡ e
-tied x y true true lt eq =
-    let same : x ≡ y = eqb-true x y eq in
-    let below : x < y = grind arith in
-    absurd (omega arith)
-tied x y true false lt eq = refl
-tied x y false true lt eq = refl
-tied x y false false lt eq = refl
-
--- a number ties with those that are equal to it
-pub tie : (x y : ℕ) → eq_by_cmp nat_cmp x y ≡ nat_eq x y
-tie x y = tied x y (nat_lt x y) (nat_eq x y) refl refl
-
 found : (q : ℕ) (es : List (ℕ × Stored)) → find nat_cmp q es ≡ lookup (nat_eq q) es
 found q [] = refl
-found q (e ∷ es) = λ i. cond (tie q e.0 i) (Some e.1) (found q es i)
+found q (e ∷ es) = λ i. cond (nat_tie q e.0 i) (Some e.1) (found q es i)
 
 -- what the map has at a number
 pub get_of : (es : List (ℕ × Stored)) (q : ℕ) → map.get (map.from_entries {R = nat_cmp} es) q
@@ -55,9 +39,6 @@ pub keeps_at : (room next : ℕ) (es : List (ℕ × Stored)) (i n : ℕ) (s : St
     s
 keeps_at room next es i n s apart at = get_of es n ∙ lookup_from_place nat_eq_equiv es i n s apart at
 
-turned : (n q : ℕ) → nat_eq n q ≡ eq_by_cmp nat_cmp q n
-turned n q = nat_eq_equiv.symm n q ∙ sym (tie q n)
-
 -- one value written
 pub set_seen : (es : List (ℕ × Stored)) (i n : ℕ) (s t : Stored) → IsDistinct nat_eq (keys_of es)
     → slice_get es i ≡ Some (n, s)
@@ -65,7 +46,7 @@ pub set_seen : (es : List (ℕ × Stored)) (i n : ℕ) (s t : Stored) → IsDist
 set_seen es i n s t apart at =
     let u = updates-with_value_at (hash_map {S = Unit {0}} es tt 0) i t nat_eq_equiv apart n s at in
     same_map nat_cmp_total nat_cmp-IsAntisymmetric _ _ (λ q. get_of (set_value_at es i t) q ∙ u.0 q
-    ∙ (λ j. cond (turned n q j) (Some t) (sym (get_of es q) j))
+    ∙ (λ j. cond (nat_tie_back n q j) (Some t) (sym (get_of es q) j))
     ∙ sym (get-insert nat_cmp_total (map.from_entries es) n t q))
 
 -- one entry taken out
@@ -77,7 +58,7 @@ take_seen es i n s apart at =
     let out = swap_out nat_eq nat_eq_equiv (nat_eq n) (nat_eq_equiv.congr n) es i (n, s) first at apart
     (swap_remove es i (n, s)) refl in
     same_map nat_cmp_total nat_cmp-IsAntisymmetric _ _ (λ q. get_of (swap_remove es i (n, s)) q
-    ∙ out.updated.0 q ∙ (λ j. cond (turned n q j) None (sym (get_of es q) j))
+    ∙ out.updated.0 q ∙ (λ j. cond (nat_tie_back n q j) None (sym (get_of es q) j))
     ∙ sym (get-remove nat_cmp_total (map.from_entries es) n q))
 
 -- one entry more

@@ -8,6 +8,7 @@ use Rattle.std.specs.FinMap as map
 use Rattle.std.specs.FinMap.{get-insert, get-remove, get-empty}
 use Rattle.std.specs.Ordering.{nat_cmp}
 use Rattle.std.proofs.lemmas.Bool.{eqb-true}
+use Rattle.list_lemmas.proofs.Numbers.{nat_tie}
 use Rattle.node_key.specs.Rooms.{room}
 use Rattle.node_key.specs.declared.key.NodeKey.{NodeKey}
 use Rattle.node_key.specs.declared.limits.TheConstants.{MAX_NUMBERS, STORE_ROOMS}
@@ -15,7 +16,6 @@ use Rattle.shard_core.specs.declared.limits.TheConstants.{MAX_COUNT}
 use Rattle.shard_core.specs.Room.{Stored, Room, HasNode, IsThere, IsSound, with_node, with_new}
 use Rattle.shard_core.specs.Room.{without}
 use Rattle.shard_core.specs.Room.{next_number}
-use Rattle.shard_core.proofs.RoomMaps.{tie}
 
 by_test : (m n : ℕ) (s t : Stored) (rest : Option Stored) (b : Bool) → nat_eq m n ≡ b
     → cond b (Some s) rest ≡ Some t → ((m ≡ n) × (s ≡ t)) ⊎ (rest ≡ Some t)
@@ -26,7 +26,8 @@ by_test m n s t rest false e is = inr is
 put_cases : (nodes : map.FinMap nat_cmp Stored) (n m : ℕ) (s t : Stored)
     → map.get (map.insert nodes n s) m ≡ Some t → ((m ≡ n) × (s ≡ t)) ⊎ (map.get nodes m ≡ Some t)
 put_cases nodes n m s t is = by_test m n s t (map.get nodes m) (nat_eq m n) refl
-    (ap (λ b. cond b (Some s) (map.get nodes m)) (sym (tie m n)) ∙ sym (get-insert nat_cmp_total nodes n s m)
+    (ap (λ b. cond b (Some s) (map.get nodes m)) (sym (nat_tie m n))
+    ∙ sym (get-insert nat_cmp_total nodes n s m)
     ∙ is)
 
 by_removal : (t : Stored) (rest : Option Stored) (b : Bool) → cond b None rest ≡ Some t → rest ≡ Some t

@@ -8,8 +8,6 @@ mod laws;
 mod limits;
 mod nodes;
 mod shard;
-#[cfg(test)]
-mod tests;
 
 pub use answers::{Dropped, Interned, ShardFault};
 pub use examples::{

@@ -34,7 +34,7 @@ room_of_node rooms n s canonic is =
       },
     ))
 
-key_seen : (o : Option Stored) (key : NodeKey) → option_map (λ (s : Stored). s.key) o ≡ Some key
+pub key_seen : (o : Option Stored) (key : NodeKey) → option_map (λ (s : Stored). s.key) o ≡ Some key
     → (s : Stored) × (o ≡ Some s) × (s.key ≡ key)
 key_seen None key is = absurd (none-some key is)
 key_seen (Some s) key is = (s, refl, same_Some s.key key is)

@@ -3,6 +3,9 @@ use Rattle.std.proofs.Common.{◌≡◌, inl, inr, ℕ, zero, suc, ◌+◌, ◌<
 use Rattle.std.proofs.Common.{Option, Some, refl, sym, ap, ◌∙◌, subst, arith}
 use Rattle.std.specs.Option.{option_map_or}
 use Rattle.std.proofs.lemmas.Option.{same_Some}
+use Rattle.list_lemmas.proofs.Fronts.{cons_head, cons_tail, nil_no_cons}
+use Rattle.list_lemmas.proofs.Members.{Contains-from_IsAmong, IsAmong}
+use Rattle.list_lemmas.proofs.Sums.{greatest_of}
 use Rattle.node_key.specs.Keys.{IsKeyOf, numbered}
 use Rattle.node_key.specs.Stands.{KeyAt, KidsStand, Stands}
 use Rattle.node_key.specs.Tree.{Kids, Tree, count, height_above, kid, no_kids}
@@ -11,36 +14,26 @@ use Rattle.node_key.specs.declared.key.NodeKey.{NodeKey}
 use Rattle.shard_core.specs.Room.{Stored}
 use Rattle.store_laws.specs.Store.{IsCanonic, Store, height_in, key_in, kids_in, node_in}
 use Rattle.store_laws.proofs.CanonicKeys.{key_of_node, key_of_tree, node_of_key, number_of_key}
-use Rattle.store_laws.proofs.CanonicMembers.{IsAmong, Contains-from_IsAmong}
 
 one_key : (at : KeyAt) (m n : ℕ) (a b : NodeKey) → m ≡ n → at m ≡ Some a → at n ≡ Some b → a ≡ b
 one_key at m n a b same p q = same_Some a b (sym p ∙ ap at same ∙ q)
-
-apart : {X : Type 0} → (x : X) (xs : List X) → [] ≡ x ∷ xs → ⊥
-apart x xs e = cc
-
-first_same : {X : Type 0} → (x y : X) (xs ys : List X) → x ∷ xs ≡ y ∷ ys → x ≡ y
-first_same x y xs ys e = cc
-
-rest_same : {X : Type 0} → (x y : X) (xs ys : List X) → x ∷ xs ≡ y ∷ ys → xs ≡ ys
-rest_same x y xs ys e = cc
 
 -- lists of numbers that stand for kids, and are those of one list of kids of a key, stand for the same kids
 same_kids_from : (at : KeyAt) (ks ls : Kids) (ns ms : List ℕ) → KidsStand at ns ks → KidsStand at ms ls
     → numbered ks ns ≡ numbered ls ms → ks ≡ ls
 same_kids_from at no_kids no_kids ns ms a b e = refl
 same_kids_from at no_kids (kid gap func dur inner more) ns [] a b e = absurd b
-same_kids_from at no_kids (kid gap func dur inner more) ns (m ∷ ms) a b e = absurd (apart _ _ e)
+same_kids_from at no_kids (kid gap func dur inner more) ns (m ∷ ms) a b e = absurd (nil_no_cons _ _ e)
 same_kids_from at (kid gap func dur inner more) ls [] ms a b e = absurd a
-same_kids_from at (kid gap func dur inner more) no_kids (n ∷ ns) ms a b e = absurd (apart _ _ (sym e))
+same_kids_from at (kid gap func dur inner more) no_kids (n ∷ ns) ms a b e = absurd (nil_no_cons _ _ (sym e))
 same_kids_from at (kid gap func dur inner more) (kid gap' func' dur' inner' more') (n ∷ ns) [] a b e =
     absurd b
 same_kids_from at (kid gap func dur inner more) (kid gap' func' dur' inner' more') (n ∷ ns) (m ∷ ms) a b e =
-    let first = first_same _ _ (numbered more ns) (numbered more' ms) e in
+    let first = cons_head _ _ (numbered more ns) (numbered more' ms) e in
     let gaps : gap ≡ gap' = ap (λ (k : Kid). k.gap) first in
     let durs : dur ≡ dur' = ap (λ (k : Kid). k.span) first in
     let number : n ≡ m = ap (λ (k : Kid). k.node) first in
-    let rest = rest_same _ _ (numbered more ns) (numbered more' ms) e in
+    let rest = cons_tail _ _ (numbered more ns) (numbered more' ms) e in
     let key = one_key at n m a.0.0 b.0.0 number a.0.2 b.0.2 in
     let funcs : func ≡ func' = sym a.0.3.func ∙ ap (λ (k : NodeKey). k.func) key ∙ b.0.3.func in
     let inners = same_kids_from at inner inner' a.0.1 b.0.1 a.0.4 b.0.4
@@ -114,10 +107,6 @@ record KidsStanding (rooms : Store) (ks : List Kid) : Type 0 where
   length_is : length numbers ≡ length ks
   height_is : height_above kids ≡ fold max 0 (map (λ k. height_in rooms k + 1) ks)
 
-fold_max : (a : ℕ) (xs : List ℕ) → fold max a xs ≡ max a (fold max 0 xs)
-fold_max a [] = omega arith
-fold_max a (x ∷ xs) = omega (arith, fold_max (max a x) xs, fold_max (max 0 x) xs)
-
 kids_standing : (rooms : Store) (ks : List Kid) → ((k : Kid) → IsAmong ks k → KidStanding rooms k)
     → KidsStanding rooms ks
 kids_standing rooms [] each = record {
@@ -135,7 +124,7 @@ kids_standing rooms (k ∷ ks) each =
     let s = first.standing in
     let span : s.tree.dur ≡ k.span = sym s.key_of.dur ∙ first.span in
     let above : height_in rooms k ≡ height_above s.tree.kids = first.height ∙ s.key_of.height in
-    let joined = fold_max (max 0 (height_in rooms k + 1)) (map (λ l. height_in rooms l + 1) ks) in
+    let joined = greatest_of (max 0 (height_in rooms k + 1)) (map (λ l. height_in rooms l + 1) ks) in
     record {
       kids = kid k.gap s.tree.func s.tree.dur s.tree.kids rest.kids;
       numbers = k.node ∷ rest.numbers;

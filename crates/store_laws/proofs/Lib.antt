@@ -1,5 +1,4 @@
 pub mod CanonicKeys
-pub mod CanonicMembers
 pub mod CanonicTrees
 pub mod ReachNodes
 pub mod ReachStakes
@@ -11,6 +10,7 @@ pub mod StepsOfKids
 pub mod StepsOfShape
 pub mod StepsRecounted
 pub mod StepsRemoved
+pub mod StoreExchanged
 pub mod SubtreesCount
 pub mod SubtreesDifferent
 pub mod SubtreesStand

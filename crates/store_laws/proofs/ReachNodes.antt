@@ -1,53 +1,39 @@
 -- The nodes of a store as one list: it has just those that are found by number, each once.
 use Rattle.std.proofs.Common.{◌≡◌, inl, inr, ℕ, zero, suc, ◌+◌, ◌<◌, ◌%◌, Bool, true, false, cond, T, List}
 use Rattle.std.proofs.Common.{[], ◌∷◌, slice_get, Some, refl, sym, ap, ◌∙◌, subst, arith, nat_eq, nat_cmp}
-use Rattle.std.proofs.Common.{is_lt, ◌&&◌, option_and_then, Ordering, Less, Equal, Greater, eq-eqb}
+use Rattle.std.proofs.Common.{option_and_then, eq-eqb}
 use Rattle.std.specs.FinMap as map
 use Rattle.std.specs.FinMap.{find, entries_sorted, get-entries}
 use Rattle.std.specs.FinMap.Entries.{below_all, is_sorted}
 use Rattle.std.specs.Cmp.{ranks, unsigned_tied}
-use Rattle.std.specs.Ordering.{MatchOrdering, eq_by_cmp}
+use Rattle.std.specs.Ordering.{eq_by_cmp}
 use Rattle.std.proofs.lemmas.Bool.{eqb-true}
 use Rattle.std.proofs.lemmas.Option.{none-some, same_Some}
+use lib.Ieee.Fits.{and_l, and_r}
+use Rattle.list_lemmas.proofs.Members.{IsAmong, IsAmong-flat_map, IsAmong-flat_map_cases, IsAmong-from_place}
+use Rattle.list_lemmas.proofs.Members.{IsAmong-place, IsApart, IsApart-append}
+use Rattle.list_lemmas.proofs.Numbers.{eqb_above, lt-from_is_lt}
 use Rattle.node_key.specs.declared.limits.TheConstants.{STORE_ROOMS}
 use Rattle.shard_core.specs.Room.{IsSound, Room, Stored, node_at}
 use Rattle.store_laws.specs.Store.{IsCanonic, Store, node_in, nodes_in}
 use Rattle.store_laws.proofs.CanonicKeys.{room_of_node}
-use Rattle.store_laws.proofs.CanonicMembers.{IsApart, IsApart-append, IsAmong, IsAmong-flat_map}
-use Rattle.store_laws.proofs.CanonicMembers.{IsAmong-flat_map_cases}
 
 -- ---- the entries of a map
-
-first_of_two : (a b : Bool) → T (a && b) → T a
-first_of_two true b h = tt
-first_of_two false b h = absurd h
-
-second_of_two : (a b : Bool) → T (a && b) → T b
-second_of_two true b h = h
-second_of_two false b h = absurd h
-
-less_by : (x y : ℕ) (r : Ordering) → MatchOrdering r (x < y) (x ≡ y) (y < x) → T (is_lt r) → x < y
-less_by x y Less m h = m
-less_by x y Equal m h = absurd h
-less_by x y Greater m h = absurd h
 
 greater_keys : (k : ℕ) (es : List (ℕ × Stored)) → T (below_all nat_cmp k es) → (e : ℕ × Stored) → IsAmong es e
     → k < e.0
 greater_keys k [] below e h = absurd h
 greater_keys k (f ∷ es) below e (inl same) =
-    let less = less_by k f.0 (nat_cmp k f.0) (ranks k f.0) (first_of_two _ _ below) in
+    let less = lt-from_is_lt k f.0 (nat_cmp k f.0) (ranks k f.0) (and_l _ _ below) in
     subst (λ (x : ℕ × Stored). k < x.0) same less
-greater_keys k (f ∷ es) below e (inr h) = greater_keys k es (second_of_two _ _ below) e h
+greater_keys k (f ∷ es) below e (inr h) = greater_keys k es (and_r _ _ below) e h
 
 IsApart-entries : (es : List (ℕ × Stored)) → T (is_sorted nat_cmp es) → IsApart es
 IsApart-entries [] sorted = tt
 IsApart-entries (e ∷ es) sorted = (
-  λ h. let less = greater_keys e.0 es (first_of_two _ _ sorted) e h in omega (arith, less),
-  IsApart-entries es (second_of_two _ _ sorted),
+  λ h. let less = greater_keys e.0 es (and_l _ _ sorted) e h in omega (arith, less),
+  IsApart-entries es (and_r _ _ sorted),
 )
-
-not_equal : (x y : ℕ) → y < x → nat_eq x y ≡ false
-not_equal x y less = grind arith
 
 find_entry : (es : List (ℕ × Stored)) (n : ℕ) (s : Stored) → T (is_sorted nat_cmp es) → IsAmong es (n, s)
     → find nat_cmp n es ≡ Some s
@@ -58,9 +44,9 @@ find_entry (e ∷ es) n s sorted (inl same) =
     let tied : eq_by_cmp nat_cmp n e.0 ≡ true = unsigned_tied n e.0 ∙ eq-eqb n e.0 (sym number) in
     ap (λ b. cond b (Some e.1) (find nat_cmp n es)) tied ∙ ap (λ (x : Stored). Some x) node
 find_entry (e ∷ es) n s sorted (inr h) =
-    let less = greater_keys e.0 es (first_of_two _ _ sorted) (n, s) h in
-    let tied : eq_by_cmp nat_cmp n e.0 ≡ false = unsigned_tied n e.0 ∙ not_equal n e.0 less in
-    ap (λ b. cond b (Some e.1) (find nat_cmp n es)) tied ∙ find_entry es n s (second_of_two _ _ sorted) h
+    let less = greater_keys e.0 es (and_l _ _ sorted) (n, s) h in
+    let tied : eq_by_cmp nat_cmp n e.0 ≡ false = unsigned_tied n e.0 ∙ eqb_above e.0 n less in
+    ap (λ b. cond b (Some e.1) (find nat_cmp n es)) tied ∙ find_entry es n s (and_r _ _ sorted) h
 
 entry_by : (e : ℕ × Stored) (es : List (ℕ × Stored)) (n : ℕ) (s : Stored) (b : Bool) → nat_eq n e.0 ≡ b
     → cond b (Some e.1) (find nat_cmp n es) ≡ Some s
@@ -78,18 +64,6 @@ entry_found (e ∷ es) n s found = entry_by e es n s (nat_eq n e.0) refl
     (entry_found es n s)
 
 -- ---- the rooms
-
-place_in : {X : Type 0} → (xs : List X) (x : X) → IsAmong xs x → (i : ℕ) × (slice_get xs i ≡ Some x)
-place_in [] x h = absurd h
-place_in (y ∷ ys) x (inl same) = (zero, ap (λ z. Some z) same)
-place_in (y ∷ ys) x (inr h) =
-    let at = place_in ys x h in
-    (suc at.0, at.1)
-
-among_from_place : {X : Type 0} → (xs : List X) (x : X) (i : ℕ) → slice_get xs i ≡ Some x → IsAmong xs x
-among_from_place [] x i at = absurd (none-some x at)
-among_from_place (y ∷ ys) x zero at = inl (same_Some y x at)
-among_from_place (y ∷ ys) x (suc i) at = inr (among_from_place ys x i at)
 
 -- a node of a sound room is under a number of the room
 room_of_entry : (r : Room) (e : ℕ × Stored) → IsSound r → IsAmong (map.entries r.nodes) e
@@ -112,7 +86,7 @@ IsApart-rooms k (r ∷ rs) are =
     (IsApart-rooms (k + 1) rs (λ i l at. let later = are (suc i) l at in (omega (arith, later.0), later.1)))
     (λ e here there.
     let (l, among, in_l) = IsAmong-flat_map_cases (λ (x : Room). map.entries x.nodes) rs e there in
-    let at = place_in rs l among in
+    let at = IsAmong-place rs l among in
     let later = are (suc at.0) l at.1 in
     let one = (room_of_entry r e first.1 here).1 in
     let other = (room_of_entry l e later.1 in_l).1 in
@@ -129,7 +103,7 @@ pub node_listed : (rooms : Store) (n : ℕ) (s : Stored) → IsCanonic rooms →
 node_listed rooms n s canonic is =
     let (r, p) = room_of_node rooms n s canonic is in
     IsAmong-flat_map (λ (x : Room). map.entries x.nodes) rooms r (n, s)
-    (among_from_place rooms r (n % STORE_ROOMS) p.there)
+    (IsAmong-from_place rooms r (n % STORE_ROOMS) p.there)
     (entry_found (map.entries r.nodes) n s (sym (get-entries r.nodes n) ∙ p.node))
 
 -- and each of them is found
@@ -137,7 +111,7 @@ pub node_found : (rooms : Store) (n : ℕ) (s : Stored) → IsCanonic rooms → 
     → node_in rooms n ≡ Some s
 node_found rooms n s canonic h =
     let (r, among, in_r) = IsAmong-flat_map_cases (λ (x : Room). map.entries x.nodes) rooms (n, s) h in
-    let at = place_in rooms r among in
+    let at = IsAmong-place rooms r among in
     let is = canonic.sound at.0 r at.1 in
     let entry = room_of_entry r (n, s) is.1 in_r in
     let place : slice_get rooms (n % STORE_ROOMS) ≡ Some r =

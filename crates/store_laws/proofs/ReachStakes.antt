@@ -2,6 +2,9 @@
 use Rattle.std.proofs.Common.{◌≡◌, ◌⊎◌, inl, inr, ℕ, zero, suc, ◌+◌, ◌<◌, ◌≤◌, List, sum_by, Some, sym, ap}
 use Rattle.std.proofs.Common.{◌∙◌, subst, arith, nat_eq, eqb-true}
 use Rattle.std.proofs.lemmas.Option.{same_Some}
+use Rattle.list_lemmas.proofs.Members.{Contains-from_IsAmong, IsAmong, one_that_passes, part-le-sum_by}
+use Rattle.list_lemmas.proofs.Members.{part_that_counts}
+use Rattle.list_lemmas.proofs.Numbers.{pos_part}
 use Rattle.node_key.specs.declared.stake.Stake.{Stake}
 use Rattle.node_key.specs.declared.key.Kid.{Kid}
 use Rattle.shard_core.specs.Room.{Stored}
@@ -9,8 +12,6 @@ use Rattle.store_laws.specs.Counted.{IsStore, kid_places, names_kid, stakes_on}
 use Rattle.store_laws.specs.Reached.{IsReached, staked, below}
 use Rattle.store_laws.specs.Store.{Store, kids_in, node_in, nodes_in}
 use Rattle.store_laws.proofs.CanonicKeys.{room_of_node}
-use Rattle.store_laws.proofs.CanonicMembers.{IsAmong, Contains-from_IsAmong, one_counts, one_that_passes}
-use Rattle.store_laws.proofs.CanonicMembers.{part-le-sum_by, part_that_counts}
 use Rattle.store_laws.proofs.ReachNodes.{node_found, node_listed}
 
 -- no node is higher than all nodes together
@@ -28,7 +29,7 @@ one_cause : (rooms : Store) (held : List Stake) (n : ℕ) (s : Stored) → IsSto
 one_cause rooms held n s store is =
     let (r, p) = room_of_node rooms n s store.canonic is in
     let least = (p.sound.placed n s.key s.count p.node).least in
-    one_counts (stakes_on n held) (kid_places rooms n) (omega (arith, store.counted.counts n s is, least))
+    pos_part (stakes_on n held) (kid_places rooms n) (omega (arith, store.counted.counts n s is, least))
 
 reached_by_stake : (rooms : Store) (held : List Stake) (n : ℕ) → 1 ≤ stakes_on n held → IsReached rooms held n
 reached_by_stake rooms held n some =

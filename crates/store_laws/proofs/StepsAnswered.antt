@@ -19,11 +19,11 @@ use Rattle.store_laws.proofs.StepsInRooms.{changed_with_new, changed_with_node, 
 use Rattle.store_laws.proofs.StepsInRooms.{next_is_fresh, next_is_here, node_in_room}
 use Rattle.store_laws.proofs.StepsNew.{only, stake, with_another}
 use Rattle.store_laws.proofs.StepsOfKids.{KidsStand-staked, numbers}
-use Rattle.store_laws.proofs.StepsOfShape.{key_of_stored}
 use Rattle.store_laws.proofs.StepsRecounted.{recounted}
 use Rattle.store_laws.proofs.StepsRemoved.{kids_of_stake, without_it}
 use Rattle.store_laws.proofs.SumsOfRooms.{sum_with_new, sum_with_node, sum_without}
 use Rattle.store_laws.proofs.SumsOfStakes.{among_held, on_none, on_one}
+use Rattle.store_laws.proofs.CanonicKeys.{key_of_node}
 
 -- a key that is new
 pub interned_new : (rooms : Store) (held left kids : List Stake) (t : Tree) (key : NodeKey) (old r : Room)
@@ -49,7 +49,7 @@ stake_stands rooms held kids t key n b store over has found x there =
     subst (λ (y : Stake). Stands (key_in rooms) y.number y.tree) (only (stake n t) x there) (
       key,
       numbers kids,
-      key_of_stored rooms n (node key b) found,
+      key_of_node rooms n (node key b) found,
       over.key_of,
       KidsStand-staked (key_in rooms) t.kids kids over.kids
           (λ y among. store.counted.stands y (among_held held kids y has among)),
@@ -112,7 +112,7 @@ dropped_removed rooms held x key old r store at has (there, after) =
     let found : node_in rooms x.number ≡ Some (node key 1) =
     node_in_room rooms i x.number old at refl ∙ there in
     let among = among_held held (x ∷ []) x has (0, zero-lt-suc 0, refl) in
-    let below = kids_of_stake rooms x key (key_of_stored rooms x.number (node key 1) found)
+    let below = kids_of_stake rooms x key (key_of_node rooms x.number (node key 1) found)
     (store.counted.stands x among) in (
       below.kids,
       below.over,

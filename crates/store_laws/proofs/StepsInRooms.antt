@@ -1,5 +1,5 @@
 -- One room of the store is another: what is under each number then.
-use Rattle.std.proofs.Common.{◌≡◌, ◌⊎◌, inl, inr, ℕ, zero, suc, ◌<◌, ◌≤◌, ◌%◌, cond, List, [], ◌∷◌, Option}
+use Rattle.std.proofs.Common.{◌≡◌, ◌⊎◌, inl, inr, ℕ, ◌<◌, ◌≤◌, ◌%◌, cond, Option}
 use Rattle.std.proofs.Common.{Some, None, length, length-set, refl, sym, ap, ◌∙◌, arith, slice_get, slice_set}
 use Rattle.std.proofs.Common.{subst, unwrap_or, option_and_then}
 use Rattle.std.specs.Cmp.{nat_cmp_total}
@@ -7,14 +7,14 @@ use Rattle.std.specs.FinMap as map
 use Rattle.std.specs.FinMap.{get-insert, get-remove}
 use Rattle.std.specs.Ordering.{nat_cmp}
 use Rattle.std.proofs.lemmas.Bool.{cases_eq, eq-eqb, ne_eqb}
-use Rattle.std.proofs.lemmas.Option.{none-some}
+use Rattle.list_lemmas.proofs.Numbers.{nat_tie}
+use Rattle.list_lemmas.proofs.Positions.{slice_get-set, slice_get-set_else}
 use Rattle.node_key.specs.Rooms.{room}
 use Rattle.node_key.specs.declared.key.NodeKey.{NodeKey}
 use Rattle.node_key.specs.declared.limits.TheConstants.{MAX_NUMBERS, STORE_ROOMS}
 use Rattle.shard_core.specs.declared.limits.TheConstants.{MAX_COUNT}
 use Rattle.shard_core.specs.Room.{HasNode, IsSound, IsThere, Room, Stored, next_number, node_at, with_new}
 use Rattle.shard_core.specs.Room.{with_node, without}
-use Rattle.shard_core.proofs.RoomMaps.{tie}
 use Rattle.shard_core.proofs.Soundness.{IsSound-with_new, IsSound-with_node, IsSound-without}
 use Rattle.store_laws.specs.Store.{IsCanonic, Store, node_in}
 
@@ -29,39 +29,23 @@ pub record IsChanged (rooms after : Store) (n : ℕ) (o : Option Stored) : Type 
   pub here : node_in after n ≡ o
   pub others : (m : ℕ) → (m ≡ n → ⊥) → node_in after m ≡ node_in rooms m
 
--- ---- elements of a list
-
-set_here : {X : Type 0} (xs : List X) (i : ℕ) (x y : X) → slice_get xs i ≡ Some x
-    → slice_get (slice_set xs i y) i ≡ Some y
-set_here [] i x y at = absurd (none-some x at)
-set_here (z ∷ xs) zero x y at = refl
-set_here (z ∷ xs) (suc i) x y at = set_here xs i x y at
-
-set_else : {X : Type 0} (xs : List X) (i j : ℕ) (y : X) → (j ≡ i → ⊥)
-    → slice_get (slice_set xs i y) j ≡ slice_get xs j
-set_else [] i j y apart = refl
-set_else (z ∷ xs) zero zero y apart = absurd (apart refl)
-set_else (z ∷ xs) zero (suc j) y apart = refl
-set_else (z ∷ xs) (suc i) zero y apart = refl
-set_else (z ∷ xs) (suc i) (suc j) y apart = set_else xs i j y (λ e. apart (ap suc e))
-
 -- ---- nodes of a room
 
 put_here : (m : Nodes) (n : ℕ) (s : Stored) → map.get (map.insert m n s) n ≡ Some s
 put_here m n s = get-insert nat_cmp_total m n s n
-    ∙ ap (λ b. cond b (Some s) (map.get m n)) (tie n n ∙ eq-eqb n n refl)
+    ∙ ap (λ b. cond b (Some s) (map.get m n)) (nat_tie n n ∙ eq-eqb n n refl)
 
 put_else : (m : Nodes) (n q : ℕ) (s : Stored) → (q ≡ n → ⊥) → map.get (map.insert m n s) q ≡ map.get m q
 put_else m n q s apart = get-insert nat_cmp_total m n s q
-    ∙ ap (λ b. cond b (Some s) (map.get m q)) (tie q n ∙ ne_eqb q n apart)
+    ∙ ap (λ b. cond b (Some s) (map.get m q)) (nat_tie q n ∙ ne_eqb q n apart)
 
 pub taken_here : (m : Nodes) (n : ℕ) → map.get (map.remove m n) n ≡ None
 taken_here m n = get-remove nat_cmp_total m n n
-    ∙ ap (λ b. cond b None (map.get m n)) (tie n n ∙ eq-eqb n n refl)
+    ∙ ap (λ b. cond b None (map.get m n)) (nat_tie n n ∙ eq-eqb n n refl)
 
 taken_else : (m : Nodes) (n q : ℕ) → (q ≡ n → ⊥) → map.get (map.remove m n) q ≡ map.get m q
 taken_else m n q apart = get-remove nat_cmp_total m n q
-    ∙ ap (λ b. cond b None (map.get m q)) (tie q n ∙ ne_eqb q n apart)
+    ∙ ap (λ b. cond b None (map.get m q)) (nat_tie q n ∙ ne_eqb q n apart)
 
 -- ---- the store
 
@@ -80,23 +64,23 @@ module _ (rooms : Store) (i n : ℕ) (old r : Room) (o : Option Stored) (whole :
       → (q.room ≡ j) × IsSound q
   sound_by j q is_at (inl e) =
       let same : r ≡ q = ap (λ (x : Option Room). unwrap_or x r)
-      (sym (set_here rooms i old r at) ∙ ap (slice_get (slice_set rooms i r)) (sym e) ∙ is_at) in
+      (sym (slice_get-set rooms i old r at) ∙ ap (slice_get (slice_set rooms i r)) (sym e) ∙ is_at) in
       subst (λ (x : Room). (x.room ≡ j) × IsSound x) same
       (same_room ∙ (whole.sound i old at).0 ∙ sym e, sound)
-  sound_by j q is_at (inr apart) = whole.sound j q (sym (set_else rooms i j r apart) ∙ is_at)
+  sound_by j q is_at (inr apart) = whole.sound j q (sym (slice_get-set_else rooms i j r apart) ∙ is_at)
 
   others_by : (m : ℕ) → (m ≡ n → ⊥) → (m % STORE_ROOMS ≡ i) ⊎ (m % STORE_ROOMS ≡ i → ⊥)
       → node_in (slice_set rooms i r) m ≡ node_in rooms m
-  others_by m apart (inl e) = node_in_room (slice_set rooms i r) i m r (set_here rooms i old r at) e
+  others_by m apart (inl e) = node_in_room (slice_set rooms i r) i m r (slice_get-set rooms i old r at) e
       ∙ rest m apart ∙ sym (node_in_room rooms i m old at e)
   others_by m apart (inr e) = ap (option_and_then (λ (x : Room). node_at x m))
-      (set_else rooms i (m % STORE_ROOMS) r e)
+      (slice_get-set_else rooms i (m % STORE_ROOMS) r e)
 
   replaced : IsChanged rooms (slice_set rooms i r) n o
   replaced = record {
     count = length-set rooms i r ∙ whole.count;
     sound = λ j q is_at. sound_by j q is_at (cases_eq j i);
-    here = node_in_room (slice_set rooms i r) i n r (set_here rooms i old r at) here ∙ is;
+    here = node_in_room (slice_set rooms i r) i n r (slice_get-set rooms i old r at) here ∙ is;
     others = λ m apart. others_by m apart (cases_eq (m % STORE_ROOMS) i);
   }
 

@@ -13,11 +13,12 @@ use Rattle.store_laws.specs.Counted.{IsStore, kid_places, names_kid, stakes_on}
 use Rattle.store_laws.specs.Store.{IsCanonic, IsWellPlaced, Store, key_in, node_in, nodes_in}
 use Rattle.store_laws.proofs.StepsInRooms.{IsChanged, node}
 use Rattle.store_laws.proofs.StepsOfKids.{Carries, KidsStand-staked, Stands-carried, numbers}
-use Rattle.store_laws.proofs.StepsOfShape.{key_of_stored, placed_elsewhere, placed_new, stored_of_key}
+use Rattle.store_laws.proofs.StepsOfShape.{placed_elsewhere, placed_new}
 use Rattle.store_laws.proofs.SumsOfKids.{kid_from_places, named_by_stakes}
 use Rattle.store_laws.proofs.SumsOfRooms.{Weight}
 use Rattle.store_laws.proofs.SumsOfStakes.{among_held, from_either, none_on, on_none, on_one}
 use Rattle.store_laws.proofs.SumsOfStakes.{stakes_exchanged}
+use Rattle.store_laws.proofs.CanonicKeys.{key_of_node, node_of_key}
 
 -- the stake on a number that stands for a tree
 abbrev pub stake : ℕ → Tree → Stake
@@ -26,7 +27,7 @@ stake n t = record { number = n; tree = t }
 -- a number that stands has a node
 stored_where : (rooms : Store) (n : ℕ) (t : Tree) → Stands (key_in rooms) n t → node_in rooms n ≡ None → ⊥
 stored_where rooms n t (key, ns, at, is, kids) none =
-    let s = stored_of_key rooms n key at in none-some s.0 (sym none ∙ s.1)
+    let s = node_of_key rooms n key at in none-some s.0 (sym none ∙ s.1)
 
 pub only : (y x : Stake) → Contains (y ∷ []) x → y ≡ x
 only y x (zero, below, is) = is
@@ -43,7 +44,7 @@ module _ (rooms after : Store) (held left kids : List Stake) (t : Tree) (key : N
   no_node m s e is = none-some s (sym fresh ∙ ap (node_in rooms) (sym e) ∙ is)
 
   kept_by : (m : ℕ) (j : NodeKey) → key_in rooms m ≡ Some j → (m ≡ n) ⊎ (m ≡ n → ⊥) → key_in after m ≡ Some j
-  kept_by m j at (inl e) = let s = stored_of_key rooms m j at in absurd (no_node m s.0 e s.1)
+  kept_by m j at (inl e) = let s = node_of_key rooms m j at in absurd (no_node m s.0 e s.1)
   kept_by m j at (inr apart) = ap (option_map (λ (s : Stored). s.key)) (changed.others m apart) ∙ at
 
   kept : (m : ℕ) (j : NodeKey) → key_in rooms m ≡ Some j → key_in after m ≡ Some j
@@ -84,7 +85,7 @@ module _ (rooms after : Store) (held left kids : List Stake) (t : Tree) (key : N
   stands_by x (inl there) = moved x.number x.tree (store.counted.stands x there)
   stands_by x (inr there) = subst (λ (y : Stake). Stands (key_in after) y.number y.tree)
       (only (stake n t) x there)
-      (key, numbers kids, key_of_stored after n (node key 1) changed.here, over.key_of, kids_stand)
+      (key, numbers kids, key_of_node after n (node key 1) changed.here, over.key_of, kids_stand)
 
   -- ---- the counts
 

@@ -2,6 +2,7 @@
 use Rattle.std.proofs.Common.{◌≡◌, ℕ, zero, suc, List, [], ◌∷◌, length, map, refl, sym, ap, arith, subst}
 use Rattle.std.proofs.Common.{Contains, Some, zero-lt-suc}
 use Rattle.std.proofs.lemmas.List.Elements.{Contains-append_right}
+use Rattle.list_lemmas.proofs.Fronts.{behind_first, first_or, no_cons}
 use Rattle.node_key.specs.Keys.{IsKeyOf, numbered}
 use Rattle.node_key.specs.Stakes.{AreOnKids}
 use Rattle.node_key.specs.declared.stake.Stake.{Stake}
@@ -17,19 +18,6 @@ numbers xs = map (λ x. x.number) xs
 abbrev tree_of : ℕ → ℕ → Kids → Tree
 tree_of func dur inner = record { func = func; dur = dur; kids = inner }
 
--- ---- parts of lists
-
-no_cons : {X : Type 0} (x : X) (xs : List X) → x ∷ xs ≡ [] → ⊥
-no_cons x xs is = let same = ap length is in omega (arith, same)
-
-abbrev first_or : {X : Type 0} → X → List X → X
-first_or d [] = d
-first_or d (x ∷ xs) = x
-
-abbrev later : {X : Type 0} → List X → List X
-later [] = []
-later (x ∷ xs) = xs
-
 -- ---- stakes on kids that stand
 
 -- stakes on the kids stand for them
@@ -43,7 +31,7 @@ KidsStand-staked at (kid gap func dur inner more) (x ∷ xs) on each =
     let here : Stands at x.number (tree_of func dur inner) = subst (λ (t : Tree). Stands at x.number t) same
     (each x (0, zero-lt-suc (length xs), refl)) in
     let rest = λ (y : Stake) (there : Contains xs y). each y (Contains-append_right (x ∷ []) xs y there) in
-    (here, KidsStand-staked at more xs (ap later on) rest)
+    (here, KidsStand-staked at more xs (ap behind_first on) rest)
 
 -- the stakes on kids, where numbers stand for them
 pub stakes_of : List ℕ → Kids → List Stake

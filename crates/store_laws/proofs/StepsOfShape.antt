@@ -1,17 +1,18 @@
 -- Keys that are well placed, and stay so where other nodes change.
 use Rattle.std.proofs.Common.{◌≡◌, ℕ, zero, suc, ◌+◌, ◌<◌, ◌≤◌, max, List, [], ◌∷◌, length, map, fold, refl}
-use Rattle.std.proofs.Common.{sym, ap, ◌∙◌, arith, subst, Contains, Option, Some, None, option_map}
+use Rattle.std.proofs.Common.{sym, ap, ◌∙◌, arith, subst, Contains, Option, Some}
 use Rattle.std.proofs.Common.{zero-lt-suc}
 use Rattle.std.specs.Option.{option_map_or}
 use Rattle.std.proofs.lemmas.List.Elements.{Contains-append_right}
-use Rattle.std.proofs.lemmas.Option.{none-some, same_Some}
 use Rattle.node_key.specs.Keys.{IsKeyOf, numbered}
 use Rattle.node_key.specs.Stands.{KidsStand}
-use Rattle.node_key.specs.Tree.{Kids, Tree, count, height_above, kid, no_kids}
+use Rattle.node_key.specs.Tree.{Kids, Tree, height_above, kid, no_kids}
 use Rattle.node_key.specs.declared.key.Kid.{Kid}
 use Rattle.node_key.specs.declared.key.NodeKey.{NodeKey}
+use Rattle.node_key.proofs.Numbering.{length-numbered}
 use Rattle.shard_core.specs.Room.{Stored}
 use Rattle.store_laws.specs.Store.{IsKidBelow, IsWellPlaced, Store, height_in, key_in, kids_in, node_in}
+use Rattle.store_laws.proofs.CanonicKeys.{key_of_node, node_of_key}
 
 map_alike : (f g : Kid → ℕ) (ks : List Kid) → ((k : Kid) → Contains ks k → f k ≡ g k) → map f ks ≡ map g ks
 map_alike f g [] same = refl
@@ -19,21 +20,6 @@ map_alike f g (k ∷ ks) same =
     let here = same k (0, zero-lt-suc (length ks), refl) in
     let rest = map_alike f g ks (λ c there. same c (Contains-append_right (k ∷ []) ks c there)) in
     λ i. here i ∷ rest i
-
-stored_by : (o : Option Stored) (key : NodeKey) → option_map (λ s. s.key) o ≡ Some key
-    → (s : Stored) × (o ≡ Some s) × (s.key ≡ key)
-stored_by None key is = absurd (none-some key is)
-stored_by (Some s) key is = (s, refl, same_Some s.key key is)
-
--- the node of a key that is found
-pub stored_of_key : (rooms : Store) (n : ℕ) (key : NodeKey) → key_in rooms n ≡ Some key
-    → (s : Stored) × (node_in rooms n ≡ Some s) × (s.key ≡ key)
-stored_of_key rooms n key is = stored_by (node_in rooms n) key is
-
--- the key of a node
-pub key_of_stored : (rooms : Store) (n : ℕ) (s : Stored) → node_in rooms n ≡ Some s
-    → key_in rooms n ≡ Some s.key
-key_of_stored rooms n s is = ap (option_map (λ (x : Stored). x.key)) is
 
 height_of : (rooms : Store) (c : Kid) (s : Stored) → node_in rooms c.node ≡ Some s
     → height_in rooms c ≡ s.key.height
@@ -49,8 +35,8 @@ placed_elsewhere rooms after key keeps placed = record {
   len = placed.len;
   kids = λ c there.
       let old = placed.kids c there in
-      let new = stored_of_key after c.node old.stored.key
-      (keeps c old.stored.key there (key_of_stored rooms c.node old.stored old.there)) in
+      let new = node_of_key after c.node old.stored.key
+      (keeps c old.stored.key there (key_of_node rooms c.node old.stored old.there)) in
       record {
         stored = new.0;
         there = new.1;
@@ -60,8 +46,8 @@ placed_elsewhere rooms after key keeps placed = record {
   height = placed.height ∙ ap (fold max 0) (map_alike (λ (c : Kid). height_in rooms c + 1)
       (λ (c : Kid). height_in after c + 1) (kids_in key) (λ c there.
       let old = placed.kids c there in
-      let new = stored_of_key after c.node old.stored.key
-      (keeps c old.stored.key there (key_of_stored rooms c.node old.stored old.there)) in
+      let new = node_of_key after c.node old.stored.key
+      (keeps c old.stored.key there (key_of_node rooms c.node old.stored old.there)) in
       ap (λ (n : ℕ). n + 1) (height_of rooms c old.stored old.there
       ∙ sym (ap (λ (k : NodeKey). k.height) new.2) ∙ sym (height_of after c new.0 new.1))));
 }
@@ -74,7 +60,7 @@ kid_below rooms no_kids ns high c stand low there = absurd (omega (arith, there.
 kid_below rooms (kid gap func dur inner more) [] high c stand low there = absurd stand
 kid_below rooms (kid gap func dur inner more) (n ∷ ns) high c ((key, ms, at, is, kids), rest) low
     (zero, below, same) =
-    let s = stored_of_key rooms n key at in
+    let s = node_of_key rooms n key at in
     let lower : height_above inner < high = omega (arith, low) in
     subst (λ (x : Kid). IsKidBelow rooms high x) same (record {
       stored = s.0;
@@ -90,19 +76,12 @@ heights : (rooms : Store) (k : Kids) (ns : List ℕ) (a : ℕ) → KidsStand (ke
 heights rooms no_kids ns a stand = omega arith
 heights rooms (kid gap func dur inner more) [] a stand = absurd stand
 heights rooms (kid gap func dur inner more) (n ∷ ns) a ((key, ms, at, is, kids), rest) =
-    let s = stored_of_key rooms n key at in
+    let s = node_of_key rooms n key at in
     let c : Kid = record { gap = gap; span = dur; node = n } in
     let this : height_in rooms c ≡ height_above inner = height_of rooms c s.0 s.1
     ∙ ap (λ (j : NodeKey). j.height) s.2 ∙ is.height in
     let later = heights rooms more ns (max a (height_in rooms c + 1)) rest in
     omega (arith, this, later)
-
-numbered_all : (k : Kids) (ns : List ℕ) → length ns ≡ count k → length (numbered k ns) ≡ count k
-numbered_all no_kids ns same = refl
-numbered_all (kid gap func dur inner more) [] same = absurd (omega (arith, same))
-numbered_all (kid gap func dur inner more) (n ∷ ns) same =
-    let rest : length (numbered more ns) ≡ count more = numbered_all more ns (omega (arith, same)) in
-    omega (arith, rest)
 
 pub placed_new : (rooms : Store) (t : Tree) (ns : List ℕ) (key : NodeKey) → IsKeyOf t ns key
     → KidsStand (key_in rooms) ns t.kids → IsWellPlaced rooms key
@@ -112,7 +91,7 @@ placed_new rooms t ns key is stand =
     let highest : height_above t.kids
     ≡ fold max 0 (map (λ (c : Kid). height_in rooms c + 1) (kids_in key)) = omega (arith, over, high) in
     record {
-      len = ap length is.kids ∙ (numbered_all t.kids ns is.numbers ∙ sym is.len);
+      len = ap length is.kids ∙ (length-numbered t.kids ns is.numbers ∙ sym is.len);
       kids = λ c there. kid_below rooms t.kids ns key.height c stand (omega (arith, is.height))
           (subst (λ (l : List Kid). Contains l c) is.kids there);
       height = is.height ∙ highest;

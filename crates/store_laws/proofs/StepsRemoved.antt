@@ -15,10 +15,11 @@ use Rattle.store_laws.specs.Store.{IsCanonic, Store, key_in, kids_in, node_in, n
 use Rattle.store_laws.proofs.StepsInRooms.{IsChanged, node}
 use Rattle.store_laws.proofs.StepsOfKids.{AreOnKids-stakes_of, Carries, Stands-carried, numbers-stakes_of}
 use Rattle.store_laws.proofs.StepsOfKids.{stakes_of, stakes_of-Stand}
-use Rattle.store_laws.proofs.StepsOfShape.{placed_elsewhere, stored_of_key}
+use Rattle.store_laws.proofs.StepsOfShape.{placed_elsewhere}
 use Rattle.store_laws.proofs.SumsOfKids.{named_by_stakes, place_of_kid}
 use Rattle.store_laws.proofs.SumsOfRooms.{Weight}
 use Rattle.store_laws.proofs.SumsOfStakes.{from_either, on_its_number, on_none, on_one, stakes_exchanged}
+use Rattle.store_laws.proofs.CanonicKeys.{node_of_key}
 
 -- stakes on the kids of what a stake stands for, whose key is found
 pub record HasKids (rooms : Store) (x : Stake) (key : NodeKey) : Type 0 where
@@ -86,7 +87,7 @@ module _ (rooms after : Store) (held left kids : List Stake) (x : Stake) (key : 
   below_apart : (m : ℕ) (j : NodeKey) (c : Kid) → key_in rooms m ≡ Some j → Contains (kids_in j) c
       → c.node ≡ x.number → ⊥
   below_apart m j c at below =
-      let s = stored_of_key rooms m j at in
+      let s = node_of_key rooms m j at in
       is_no_kid m s.0 c s.1 (subst (λ (k : NodeKey). Contains (kids_in k) c) (sym s.2) below)
 
   carries : Carries (key_in rooms) (key_in after) (λ m. m ≡ x.number → ⊥)

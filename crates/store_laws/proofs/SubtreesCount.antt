@@ -1,7 +1,8 @@
 -- There are as many nodes as different subtrees.
-use Rattle.std.proofs.Common.{◌≡◌, inl, inr, ℕ, ◌+◌, ◌≤◌, List, [], ◌∷◌, length, map, Some, refl, sym, ap}
-use Rattle.std.proofs.Common.{◌∙◌, subst, arith}
+use Rattle.std.proofs.Common.{◌≡◌, ℕ, List, length, map, Some, sym, ap}
+use Rattle.std.proofs.Common.{◌∙◌, arith}
 use Rattle.std.proofs.lemmas.Option.{same_Some}
+use Rattle.list_lemmas.proofs.Members.{IsAmong, length-le_from_own}
 use Rattle.node_key.specs.Keys.{different, different_subtrees, distinct}
 use Rattle.node_key.specs.declared.stake.Stake.{Stake}
 use Rattle.node_key.specs.Stands.{Stands}
@@ -10,51 +11,11 @@ use Rattle.shard_core.specs.Room.{Stored}
 use Rattle.store_laws.specs.Counted.{IsStore}
 use Rattle.store_laws.specs.Store.{Store, key_in, node_in, nodes_in}
 use Rattle.store_laws.proofs.CanonicKeys.{node_of_key}
-use Rattle.store_laws.proofs.CanonicMembers.{IsAmong, IsApart}
 use Rattle.store_laws.proofs.CanonicTrees.{one_number, one_tree}
 use Rattle.store_laws.proofs.ReachNodes.{IsApart-nodes_in, node_found, node_listed}
 use Rattle.store_laws.proofs.ReachStakes.{reached}
 use Rattle.store_laws.proofs.SubtreesDifferent.{IsAmong-different, IsAmong-from_different, IsApart-different}
 use Rattle.store_laws.proofs.SubtreesStand.{number_of_subtree, staked_subtrees, tree_of_reached}
-
--- ---- lists whose elements belong together one to one
-
--- the list without one of its elements
-abbrev without : {X : Type 0} → (xs : List X) (x : X) → IsAmong xs x → List X
-without [] x h = []
-without (y ∷ ys) x (inl e) = ys
-without (y ∷ ys) x (inr h) = y ∷ without ys x h
-
-length-without : {X : Type 0} → (xs : List X) (x : X) (h : IsAmong xs x)
-    → length (without xs x h) + 1 ≡ length xs
-length-without [] x h = absurd h
-length-without (y ∷ ys) x (inl e) = omega arith
-length-without (y ∷ ys) x (inr h) = omega (arith, length-without ys x h)
-
--- another element is left
-others_left : {X : Type 0} → (xs : List X) (x y : X) (h : IsAmong xs x) → IsAmong xs y → (¬ (x ≡ y))
-    → IsAmong (without xs x h) y
-others_left [] x y h g differ = absurd h
-others_left (z ∷ zs) x y (inl e) (inl f) differ = absurd (differ (sym e ∙ f))
-others_left (z ∷ zs) x y (inl e) (inr g) differ = g
-others_left (z ∷ zs) x y (inr h) (inl f) differ = inl f
-others_left (z ∷ zs) x y (inr h) (inr g) differ = inr (others_left zs x y h g differ)
-
--- where each element of a list without repeats has one of its own in another, that is as long
-pub length-le_from_own : {X Y : Type 0} → (R : X → Y → Type 0) (xs : List X) (ys : List Y) → IsApart xs
-    → ((x : X) → IsAmong xs x → (y : Y) × IsAmong ys y × R x y)
-    → ((x z : X) (y : Y) → R x y → R z y → x ≡ z) → length xs ≤ length ys
-length-le_from_own R [] ys apart each own = omega arith
-length-le_from_own R (x ∷ xs) ys apart each own =
-    let (y, among, is) = each x (inl refl) in
-    let rest = length-le_from_own R xs (without ys y among) apart.1 (λ z h.
-    let (w, there, holds) = each z (inr h) in (
-      w,
-      others_left ys y w among there (λ same.
-          apart.0 (subst (IsAmong xs) (own z x w holds (subst (R x) same is)) h)),
-      holds,
-    )) own in
-    omega (arith, rest, length-without ys y among)
 
 -- ---- nodes and trees
 

@@ -1,39 +1,13 @@
 -- Each of a list of trees once: it has the trees of the list, none of them twice.
-use Rattle.std.proofs.Common.{◌≡◌, ◌⊎◌, inl, inr, Bool, true, false, cond, ◌&&◌, ◌||◌, nat_eq, List, [], ◌∷◌}
+use Rattle.std.proofs.Common.{◌≡◌, inl, inr, Bool, true, false, cond, nat_eq, List, [], ◌∷◌}
 use Rattle.std.proofs.Common.{refl, sym, ap, ◌∙◌, subst, true≢false, eqb-true, eq-eqb}
 use Rattle.std.specs.List.{list_any}
 use Rattle.std.proofs.lemmas.Bool.{and_parts}
+use Rattle.std.proofs.lemmas.Bool.{and_from, or_cases, or_left, or_right}
+use Rattle.list_lemmas.proofs.Members.{IsAmong, IsApart}
 use Rattle.node_key.specs.Keys.{different}
-use Rattle.node_key.specs.Tree.{Kids, Tree, kid, no_kids, same_kids, same_tree}
-use Rattle.store_laws.proofs.CanonicMembers.{IsAmong, IsApart}
-
-same_kids-true : (a b : Kids) → same_kids a b ≡ true → a ≡ b
-same_kids-true no_kids no_kids h = refl
-same_kids-true no_kids (kid gap func dur inner more) h = absurd (true≢false (sym h))
-same_kids-true (kid gap func dur inner more) no_kids h = absurd (true≢false (sym h))
-same_kids-true (kid gap func dur inner more) (kid gap' func' dur' inner' more') h =
-    let four = and_parts _ (same_kids more more') h in
-    let three = and_parts _ (same_kids inner inner') four.0 in
-    let two = and_parts _ (nat_eq dur dur') three.0 in
-    let one = and_parts (nat_eq gap gap') (nat_eq func func') two.0 in
-    let gaps = eqb-true gap gap' one.0 in
-    let funcs = eqb-true func func' one.1 in
-    let durs = eqb-true dur dur' two.1 in
-    let inners = same_kids-true inner inner' three.1 in
-    let mores = same_kids-true more more' four.1 in
-    λ i. kid (gaps i) (funcs i) (durs i) (inners i) (mores i)
-
-both : (a b : Bool) → a ≡ true → b ≡ true → (a && b) ≡ true
-both true b p q = q
-both false b p q = p
-
-same_kids_itself : (a : Kids) → same_kids a a ≡ true
-same_kids_itself no_kids = refl
-same_kids_itself (kid gap func dur inner more) =
-    let one = both (nat_eq gap gap) (nat_eq func func) (eq-eqb gap gap refl) (eq-eqb func func refl) in
-    let two = both _ (nat_eq dur dur) one (eq-eqb dur dur refl) in
-    let three = both _ (same_kids inner inner) two (same_kids_itself inner) in
-    both _ (same_kids more more) three (same_kids_itself more)
+use Rattle.node_key.specs.Tree.{Tree, same_kids, same_tree}
+use Rattle.node_key.proofs.StakeLaws.{same_kids-refl, same_kids-true}
 
 -- trees that are the same are equal
 pub same_tree-true : (t u : Tree) → same_tree t u ≡ true → t ≡ u
@@ -47,27 +21,15 @@ same_tree-true t u h =
 
 pub same_tree_itself : (t : Tree) → same_tree t t ≡ true
 same_tree_itself t =
-    let one = both (nat_eq t.func t.func) (nat_eq t.dur t.dur) (eq-eqb _ _ refl) (eq-eqb _ _ refl) in
-    both _ (same_kids t.kids t.kids) one (same_kids_itself t.kids)
-
-one_of : (a b : Bool) → (a || b) ≡ true → (a ≡ true) ⊎ (b ≡ true)
-one_of true b h = inl refl
-one_of false b h = inr h
+    let one = and_from (nat_eq t.func t.func) (nat_eq t.dur t.dur) (eq-eqb _ _ refl) (eq-eqb _ _ refl) in
+    and_from _ (same_kids t.kids t.kids) one (same_kids-refl t.kids)
 
 among_same : (t : Tree) (ts : List Tree) → list_any (same_tree t) ts ≡ true → IsAmong ts t
 among_same t [] h = absurd (true≢false (sym h))
-among_same t (u ∷ ts) h = elim (one_of (same_tree t u) (list_any (same_tree t) ts) h) [
+among_same t (u ∷ ts) h = elim (or_cases (same_tree t u) (list_any (same_tree t) ts) h) [
   | inl here ↦ inl (sym (same_tree-true t u here))
   | inr later ↦ inr (among_same t ts later)
 ]
-
-or_left : (a b : Bool) → a ≡ true → (a || b) ≡ true
-or_left true b p = refl
-or_left false b p = absurd (true≢false (sym p))
-
-or_right : (a b : Bool) → b ≡ true → (a || b) ≡ true
-or_right true b p = refl
-or_right false b p = p
 
 same_among : (t : Tree) (ts : List Tree) → IsAmong ts t → list_any (same_tree t) ts ≡ true
 same_among t [] h = absurd h

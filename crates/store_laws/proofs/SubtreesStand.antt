@@ -1,6 +1,10 @@
 -- The trees that nodes stand for are the subtrees of the stakes' trees.
 use Rattle.std.proofs.Common.{◌≡◌, inl, inr, ℕ, List, [], ◌∷◌, map, flat_map, refl, sym, ap, ◌∙◌, subst}
 use Rattle.std.proofs.lemmas.Option.{same_Some}
+use Rattle.list_lemmas.proofs.Members.{Contains-from_IsAmong, IsAmong, IsAmong-append_cases}
+use Rattle.list_lemmas.proofs.Members.{IsAmong-append_left, IsAmong-append_right, IsAmong-flat_map}
+use Rattle.list_lemmas.proofs.Members.{IsAmong-flat_map_cases, IsAmong-from_Contains, IsAmong-map}
+use Rattle.list_lemmas.proofs.Members.{IsAmong-map_cases}
 use Rattle.node_key.specs.Keys.{numbered, subtrees, trees_below}
 use Rattle.node_key.specs.declared.stake.Stake.{Stake}
 use Rattle.node_key.specs.Stands.{KeyAt, KidsStand, Stands}
@@ -10,10 +14,6 @@ use Rattle.store_laws.specs.Counted.{IsStore}
 use Rattle.store_laws.specs.Reached.{IsReached, staked, below}
 use Rattle.store_laws.specs.Store.{Store, key_in, kids_in}
 use Rattle.store_laws.proofs.CanonicKeys.{key_of_node}
-use Rattle.store_laws.proofs.CanonicMembers.{Contains-from_IsAmong, IsAmong, IsAmong-append_cases}
-use Rattle.store_laws.proofs.CanonicMembers.{IsAmong-append_left, IsAmong-append_right, IsAmong-flat_map}
-use Rattle.store_laws.proofs.CanonicMembers.{IsAmong-flat_map_cases, IsAmong-from_Contains, IsAmong-map}
-use Rattle.store_laws.proofs.CanonicMembers.{IsAmong-map_cases}
 
 -- ---- subtrees of subtrees
 

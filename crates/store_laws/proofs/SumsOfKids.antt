@@ -1,9 +1,11 @@
 -- How many kids of a node have a number.
-use Rattle.std.proofs.Common.{◌≡◌, ℕ, ◌≤◌, ◌==◌, Bool, true, false, Contains, count_by, List, [], ◌∷◌, Some}
+use Rattle.std.proofs.Common.{◌≡◌, ℕ, ◌≤◌, ◌==◌, Contains, count_by, List, [], ◌∷◌, Some}
 use Rattle.std.proofs.Common.{get_or, length, refl, ap, ◌∙◌, arith}
 use Rattle.std.proofs.lemmas.Bool.{eq-eqb, eqb-true}
 use Rattle.std.proofs.lemmas.List.Sums.{get_or-le-sum_by, sum_by-cons}
 use Rattle.std.proofs.lemmas.Option.{get_or_from_slice_get, slice_get_within}
+use Rattle.list_lemmas.proofs.Booleans.{one_if, true_from_count}
+use Rattle.list_lemmas.proofs.Sums.{sum_by-some_term}
 use Rattle.node_key.specs.Keys.{numbered}
 use Rattle.node_key.specs.Stakes.{IsOverStakes}
 use Rattle.node_key.specs.declared.stake.Stake.{Stake}
@@ -14,9 +16,8 @@ use Rattle.shard_core.specs.Room.{Stored}
 use Rattle.store_laws.specs.Counted.{kid_places, names_kid, stakes_on}
 use Rattle.store_laws.specs.Store.{IsCanonic, Store, kids_in, node_in}
 use Rattle.store_laws.proofs.StepsOfKids.{numbers}
-use Rattle.store_laws.proofs.SumsFound.{node_of_sum, some_term}
+use Rattle.store_laws.proofs.SumsFound.{node_of_sum}
 use Rattle.store_laws.proofs.SumsOfRooms.{in_the_sum}
-use Rattle.store_laws.proofs.SumsOfStakes.{one_if}
 
 named_by_kids : (m : ℕ) (k : Kids) (xs : List Stake) → length (numbers xs) ≡ count k
     → count_by (λ (c : Kid). c.node == m) (numbered k (numbers xs)) ≡ stakes_on m xs
@@ -53,14 +54,10 @@ place_of_kid rooms n s c is there =
     let one = names_its_kid n s c there in
     omega (arith, part, one)
 
-one_from : (b : Bool) → 1 ≤ one_if b → b ≡ true
-one_from true one = refl
-one_from false one = absurd (omega (arith, one))
-
 kid_from_names : (m n : ℕ) (s : Stored) → 1 ≤ names_kid m (n, s)
     → (c : Kid) × Contains (kids_in s.key) c × (c.node ≡ m)
 kid_from_names m n s one =
-    let term = some_term (λ (k : Kid). one_if (k.node == m)) (kids_in s.key) one in
+    let term = sum_by-some_term (λ (k : Kid). one_if (k.node == m)) (kids_in s.key) one in
     let c = term.1 in (
       c,
       (
@@ -68,7 +65,7 @@ kid_from_names m n s one =
         slice_get_within (kids_in s.key) term.0 c term.2,
         get_or_from_slice_get (kids_in s.key) term.0 c c term.2,
       ),
-      eqb-true c.node m (one_from (c.node == m) term.3),
+      eqb-true c.node m (true_from_count (c.node == m) term.3),
     )
 
 -- a number that stands at a kid's place is that of a kid of a node

@@ -12,10 +12,10 @@ use Rattle.std.specs.declared.cmp.Ordering.{Ordering}
 use Rattle.std.specs.declared.cmp.Ordering.TheVariants.{Less, Equal, Greater}
 use Rattle.std.proofs.lemmas.List.Sums.{sum_by-append, sum_by-cons, sum_by-set, get_or-le-sum_by}
 use Rattle.std.proofs.lemmas.Option.{get_or_from_slice_get, option_and_then_some, slice_get_within}
+use Rattle.list_lemmas.proofs.Numbers.{nat_tie}
 use Rattle.node_key.specs.declared.key.NodeKey.{NodeKey}
 use Rattle.node_key.specs.declared.limits.TheConstants.{STORE_ROOMS}
 use Rattle.std.proofs.lemmas.Bool.{eqb-true}
-use Rattle.shard_core.proofs.RoomMaps.{tie}
 use Rattle.shard_core.specs.Room.{Room, Stored, next_number, node_at, with_new, with_node, without}
 use Rattle.store_laws.specs.Store.{Store, node_in, nodes_in}
 use Rattle.store_laws.proofs.StepsInRooms.{Nodes, node, taken_here}
@@ -53,7 +53,7 @@ sum-insert f m k v none = ap (sum_by f) (entries-insert nat_cmp_total m k v)
 
 tied_alike : (m : Nodes) (k q : ℕ) (v : Stored) (b : Bool) → eq_by_cmp nat_cmp q k ≡ b → map.get m k ≡ Some v
     → cond b (Some v) (cond b None (map.get m q)) ≡ map.get m q
-tied_alike m k q v true is has = sym (ap (map.get m) (eqb-true q k (sym (tie q k) ∙ is)) ∙ has)
+tied_alike m k q v true is has = sym (ap (map.get m) (eqb-true q k (sym (nat_tie q k) ∙ is)) ∙ has)
 tied_alike m k q v false is has = refl
 
 -- what is removed and put back

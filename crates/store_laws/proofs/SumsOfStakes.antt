@@ -1,38 +1,18 @@
 -- Sums over stakes that are exchanged for others, and which stakes are among them.
-use Rattle.std.proofs.Common.{◌≡◌, ◌⊎◌, inl, inr, ℕ, ◌+◌, ◌≤◌, ◌==◌, Bool, true, false, cond, Contains, List}
+use Rattle.std.proofs.Common.{◌≡◌, ◌⊎◌, inl, inr, ℕ, ◌+◌, ◌≤◌, ◌==◌, Bool, true, false, Contains, List}
 use Rattle.std.proofs.Common.{[], ◌∷◌, ◌++◌, length, refl, remove, subst, sym, ap, ◌∙◌, arith, sum_by}
-use Rattle.std.proofs.Common.{true≢false, zero-lt-suc}
-use Rattle.std.proofs.lemmas.Bool.{and_from, and_parts, eq-eqb, eqb-true, cases_eq, ne_eqb}
+use Rattle.std.proofs.Common.{zero-lt-suc}
+use Rattle.std.proofs.lemmas.Bool.{and_parts, eq-eqb, eqb-true, cases_eq, ne_eqb}
 use Rattle.std.proofs.lemmas.List.Elements.{Contains-append_right}
 use Rattle.std.proofs.lemmas.List.Sums.{get_or-le-sum_by, sum_by-append, sum_by-cons, sum_by-remove}
+use Rattle.list_lemmas.proofs.Booleans.{one_if}
 use Rattle.node_key.specs.Stakes.{Exchanges, HasStakes, same_stake, times}
 use Rattle.node_key.specs.declared.stake.Stake.{Stake}
-use Rattle.node_key.specs.Tree.{Kids, kid, no_kids, same_kids, same_tree}
+use Rattle.node_key.specs.Tree.{same_kids, same_tree}
+use Rattle.node_key.proofs.StakeLaws.{same_kids-true, same_stake-refl}
 use Rattle.store_laws.specs.Counted.{stakes_on}
 
 -- ---- the test of equal stakes
-
-same_kids-true : (k l : Kids) → same_kids k l ≡ true → k ≡ l
-same_kids-true no_kids no_kids is = refl
-same_kids-true no_kids (kid gap func dur inner more) is = absurd (true≢false (sym is))
-same_kids-true (kid gap func dur inner more) no_kids is = absurd (true≢false (sym is))
-same_kids-true (kid gap func dur inner more) (kid gap' func' dur' inner' more') is =
-    let four = and_parts _ (same_kids more more') is in
-    let three = and_parts _ (same_kids inner inner') four.0 in
-    let two = and_parts _ (dur == dur') three.0 in
-    let one = and_parts (gap == gap') (func == func') two.0 in
-    let gaps = eqb-true gap gap' one.0 in
-    let funcs = eqb-true func func' one.1 in
-    let durs = eqb-true dur dur' two.1 in
-    let inners = same_kids-true inner inner' three.1 in
-    let mores = same_kids-true more more' four.1 in
-    λ i. kid (gaps i) (funcs i) (durs i) (inners i) (mores i)
-
-same_kids-refl : (k : Kids) → same_kids k k ≡ true
-same_kids-refl no_kids = refl
-same_kids-refl (kid gap func dur inner more) =
-    and_from _ _ (and_from _ _ (and_from _ _ (and_from _ _ (eq-eqb gap gap refl) (eq-eqb func func refl))
-    (eq-eqb dur dur refl)) (same_kids-refl inner)) (same_kids-refl more)
 
 pub same_stake-true : (x y : Stake) → same_stake x y ≡ true → x ≡ y
 same_stake-true x y is =
@@ -44,15 +24,6 @@ same_stake-true x y is =
     let dur = eqb-true x.tree.dur y.tree.dur one.1 in
     let kids = same_kids-true x.tree.kids y.tree.kids two.1 in
     λ i. record { number = number i; tree = record { func = func i; dur = dur i; kids = kids i } }
-
-pub same_stake-refl : (x : Stake) → same_stake x x ≡ true
-same_stake-refl x = and_from _ _ (eq-eqb x.number x.number refl)
-    (and_from _ _ (and_from _ _ (eq-eqb x.tree.func x.tree.func refl) (eq-eqb x.tree.dur x.tree.dur refl))
-    (same_kids-refl x.tree.kids))
-
--- a test, counted
-abbrev pub one_if : Bool → ℕ
-one_if b = cond b 1 0
 
 -- ---- which stakes are there
 

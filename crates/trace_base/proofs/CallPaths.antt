@@ -1,7 +1,7 @@
 -- The call paths of streams are what a call stack of them begins with: the stack was each of its paths
 -- itself, when that path's innermost call was entered.
-use Rattle.std.proofs.Common.{◌≡◌, ◌≢◌, ℕ, ◌+◌, ◌-◌, ◌<◌, ◌≤◌, zero, suc, not, Bool, true, false, cond}
-use Rattle.std.proofs.Common.{List, [], ◌∷◌, ◌++◌, length, take, get_or, filter, refl, ap, sym, subst, ◌∙◌}
+use Rattle.std.proofs.Common.{◌≡◌, ◌≢◌, ℕ, ◌+◌, ◌-◌, ◌<◌, ◌≤◌, zero, suc, not, true}
+use Rattle.std.proofs.Common.{List, [], ◌∷◌, ◌++◌, length, take, get_or, filter, refl, ap, sym, ◌∙◌}
 use Rattle.std.proofs.Common.{◌⊎◌, inl, inr, arith, add-one, length-append}
 use Rattle.std.specs.Cmp.Lexicographic.{slice_cmp}
 use Rattle.std.specs.List.{Contains, flat_map}
@@ -9,12 +9,13 @@ use Rattle.std.specs.Ordering.{nat_cmp}
 use Rattle.std.proofs.lemmas.Bool.{cases_lt, true≢false}
 use Rattle.std.proofs.lemmas.Cmp.{nat_list_cmp_total}
 use Rattle.std.proofs.lemmas.List.{length-take, take-append-le, take-take, take_all}
-use Rattle.std.proofs.lemmas.List.Elements.{Contains-append_cases, Contains-append_left}
-use Rattle.std.proofs.lemmas.List.Elements.{Contains-append_right}
 use Rattle.std.proofs.lemmas.List.FromFn.{get_or-map-range_with_len, length-map-range_with_len}
 use Rattle.std.proofs.lemmas.List.Sums.{fold_more}
 use Rattle.std.specs.FinMap.{nat_cmp-IsAntisymmetric, slice_cmp-IsAntisymmetric}
-use Rattle.trace_base.proofs.InOrder.{distinct-rising, has_cons, has_here, has_there, rising-unique}
+use Rattle.list_lemmas.proofs.Fronts.{take_none}
+use Rattle.list_lemmas.proofs.InOrder.{rising-unique}
+use Rattle.list_lemmas.proofs.Members.{filter-has, filter-keeps, flat_map-has, flat_map-keeps}
+use Rattle.trace_base.proofs.InOrder.{distinct-rising}
 use Rattle.trace_base.specs.Flat.{is_bare}
 use Rattle.trace_base.specs.InOrder.{IsRisingListOf}
 use Rattle.trace_base.specs.Paths.{call_paths, call_stacks, IsPathOf}
@@ -29,10 +30,6 @@ record Reached (es : List Event) (path : List ℕ) : Type 0 where
   first : 1 ≤ moment
   within : moment ≤ length es
   same : stack_after (take moment es) ≡ path
-
-take_none : {X : Type 0} (n : ℕ) (xs : List X) → xs ≡ [] → take n xs ≡ []
-take_none zero xs e = refl
-take_none (suc n) xs e = ap (take (suc n)) e
 
 -- a part of a call stack after one more event is a part of the one before, or the whole new one
 part_before : (path stack : List ℕ) (e : Event) (n : ℕ) → path ≡ take n (stack_step stack e)
@@ -64,59 +61,6 @@ reached es path some (suc i) n h e =
         same = step ∙ sym whole;
       }
     ]
-
--- ---- what lists made of others have
-
-filter-has : {X : Type 0} (p : X → Bool) (xs : List X) (x : X) → Contains (filter p xs) x
-    → Contains xs x × (p x ≡ true)
-filter-has p [] x c = absurd (omega (arith, c.1))
-filter-has {X} p (y ∷ ys) x c = by (p y) refl (filter-has p ys x) c
-  where
-    by : (b : Bool) → p y ≡ b → (Contains (filter p ys) x → Contains ys x × (p x ≡ true))
-        → Contains (cond b (y ∷ filter p ys) (filter p ys)) x → Contains (y ∷ ys) x × (p x ≡ true)
-    by true e rest h = elim (has_cons y x (filter p ys) h) [
-      | inl same ↦ (
-        subst (λ (z : X). Contains (y ∷ ys) z) same (has_here y ys),
-        subst (λ (z : X). p z ≡ true) same e,
-      )
-      | inr later ↦ (has_there y x ys (rest later).0, (rest later).1)
-    ]
-    by false e rest h = (has_there y x ys (rest h).0, (rest h).1)
-
-filter-keeps : {X : Type 0} (p : X → Bool) (xs : List X) (x : X) → Contains xs x → p x ≡ true
-    → Contains (filter p xs) x
-filter-keeps p [] x c t = absurd (omega (arith, c.1))
-filter-keeps {X} p (y ∷ ys) x c t = by (p y) refl (λ h. filter-keeps p ys x h t) c
-  where
-    by : (b : Bool) → p y ≡ b → (Contains ys x → Contains (filter p ys) x) → Contains (y ∷ ys) x
-        → Contains (cond b (y ∷ filter p ys) (filter p ys)) x
-    by true e rest h = elim (has_cons y x ys h) [
-      | inl same ↦ subst (λ (z : X). Contains (y ∷ filter p ys) z) same (has_here y (filter p ys))
-      | inr later ↦ has_there y x (filter p ys) (rest later)
-    ]
-    by false e rest h = elim (has_cons y x ys h) [
-      | inl same ↦ absurd (true≢false (sym t ∙ ap p (sym same) ∙ e))
-      | inr later ↦ rest later
-    ]
-
-flat_map-has : {X Y : Type 0} (f : X → List Y) (xs : List X) (y : Y) → Contains (flat_map f xs) y
-    → (x : X) × Contains xs x × Contains (f x) y
-flat_map-has f [] y c = absurd (omega (arith, c.1))
-flat_map-has f (x ∷ xs) y c = elim (Contains-append_cases (f x) (flat_map f xs) y c) [
-  | inl here ↦ (x, has_here x xs, here)
-  | inr there ↦ (
-      let h = flat_map-has f xs y there in
-      (h.0, has_there x h.0 xs h.1, h.2))
-]
-
-flat_map-keeps : {X Y : Type 0} (f : X → List Y) (xs : List X) (x : X) (y : Y) → Contains xs x
-    → Contains (f x) y → Contains (flat_map f xs) y
-flat_map-keeps f [] x y c d = absurd (omega (arith, c.1))
-flat_map-keeps {X} {Y} f (z ∷ zs) x y c d = elim (has_cons z x zs c) [
-  | inl same ↦ Contains-append_left (f z) (flat_map f zs) y
-      (subst (λ (q : X). Contains (f q) y) (sym same) d)
-  | inr later ↦ Contains-append_right (f z) (flat_map f zs) y (flat_map-keeps f zs x y later d)
-]
 
 -- ---- the paths
 

@@ -1,11 +1,13 @@
 -- A test that shows a written-out stream to be legal, by computing.
-use Rattle.std.proofs.Common.{◌≡◌, ◌≢◌, ℕ, ◌+◌, ◌<◌, ◌≤◌, zero, suc, List, [], ◌∷◌, length, take, get_or, map}
-use Rattle.std.proofs.Common.{filter, slice_get, Bool, true, ◌&&◌, nat_le, Some, refl, ap, sym, subst, inl}
+use Rattle.std.proofs.Common.{◌≡◌, ℕ, ◌+◌, ◌<◌, ◌≤◌, List, [], ◌∷◌, length, take, get_or, map}
+use Rattle.std.proofs.Common.{filter, slice_get, Bool, true, ◌&&◌, nat_le, Some, refl, ap, subst, inl}
 use Rattle.std.proofs.Common.{inr, arith, length-append}
-use Rattle.std.proofs.lemmas.Bool.{and_parts, leb-true, cases_eq, cases_lt, true≢false}
+use Rattle.std.proofs.lemmas.Bool.{and_parts, leb-true, cases_lt}
 use Rattle.std.proofs.lemmas.List.{take_all, get_or_default, length-map}
 use Rattle.std.proofs.lemmas.List.Sorted.{IsNonDecreasingBy-from_all_adjacent}
 use Rattle.std.proofs.lemmas.Option.{get_or_from_slice_get, slice_get_within}
+use Rattle.list_lemmas.proofs.Each.{passes_below, passes_below-at}
+use Rattle.list_lemmas.proofs.Fronts.{nonempty_by}
 use Rattle.trace_base.specs.Examples.{two_calls, recursion, no_length}
 use Rattle.trace_base.specs.FoldExamples.{both_ways, siblings}
 use Rattle.trace_base.specs.Stream.{time_of, is_enter, stack_after, moments, IsLegal}
@@ -14,19 +16,6 @@ use Rattle.trace_base.specs.declared.limits.TheConstants.{MAX_FUNCTIONS}
 use Rattle.trace_base.specs.declared.stream.Event.{Event}
 use Rattle.trace_base.specs.declared.stream.Event.TheVariants.{Enter, Leave}
 use Rattle.trace_base.specs.declared.stream.TrackStream.{TrackStream}
-
--- the test passes at each number below n
-abbrev pub passes_below : (ℕ → Bool) → ℕ → Bool
-passes_below p zero = true
-passes_below p (suc n) = p n && passes_below p n
-
-passes_below-at : (p : ℕ → Bool) (n i : ℕ) → passes_below p n ≡ true → i < n → p i ≡ true
-passes_below-at p zero i e h = absurd (omega arith)
-passes_below-at p (suc n) i e h =
-    elim (cases_eq i n) [
-      | inl same ↦ subst (λ (j : ℕ). p j ≡ true) (sym same) (and_parts (p n) (passes_below p n) e).0
-      | inr other ↦ passes_below-at p n i (and_parts (p n) (passes_below p n) e).1 (omega (arith, other))
-    ]
 
 -- whether the event may come with this call stack
 abbrev pub may_come : Event → List ℕ → Bool
@@ -64,10 +53,6 @@ fine_at s tests i e h =
     (passes_below-at (λ j. may_come (get_or s.events j (Leave 0)) (stack_after (take j s.events)))
     (length s.events) i tests.each (slice_get_within s.events i e h))
 
-not_empty : (stack : List ℕ) → nat_le 1 (length stack) ≡ true → stack ≢ []
-not_empty [] h = λ e. true≢false (sym h)
-not_empty (x ∷ xs) h = λ e. cc
-
 depth_at : (s : TrackStream) → PassesTests s → (i : ℕ) → length (stack_after (take i s.events)) ≤
     MAX_OPEN_CALLS
 depth_at s tests i =
@@ -87,7 +72,7 @@ pub IsLegal-from : (s : TrackStream) → PassesTests s → IsLegal s
 IsLegal-from s tests = record {
   in_time = leb-true _ _ tests.in_time;
   in_order = IsNonDecreasingBy-from_all_adjacent (λ x. x) (moments s) (rises s tests);
-  closes_open = λ i t h. not_empty (stack_after (take i s.events)) (fine_at s tests i (Leave t) h);
+  closes_open = λ i t h. nonempty_by (stack_after (take i s.events)) (fine_at s tests i (Leave t) h);
   all_closed = tests.all_closed;
   depth = depth_at s tests;
   calls = leb-true _ _ tests.calls;

@@ -1,8 +1,7 @@
 pub mod CallPaths
-pub mod Given
 pub mod InOrder
 pub mod LegalExamples
 pub mod LegalTest
-pub mod Order
+pub mod Moments
 pub mod Pairs
-pub mod Ranges
+pub mod Telling

@@ -1,13 +1,14 @@
 -- The pairs of a matrix are those that have a message.
-use Rattle.std.proofs.Common.{◌≡◌, ℕ, List, map, refl, ap, ◌∙◌}
+use Rattle.std.proofs.Common.{◌≡◌, ℕ, List, map, ap, ◌∙◌}
 use Rattle.std.specs.Cmp.{IsTotalOrder, on_total, then_total}
 use Rattle.std.specs.FinMap.{nat_cmp-IsAntisymmetric}
 use Rattle.std.specs.List.{Contains}
-use Rattle.std.specs.Ordering.{nat_cmp, ordering_then}
-use Rattle.std.specs.declared.cmp.Ordering.{Ordering}
-use Rattle.std.specs.declared.cmp.Ordering.TheVariants.{Less, Equal, Greater}
+use Rattle.std.specs.Ordering.{nat_cmp}
+use Rattle.std.specs.declared.cmp.Ordering.TheVariants.{Equal}
 use Rattle.std.proofs.lemmas.Cmp.{nat_cmp_total}
-use Rattle.trace_base.proofs.InOrder.{distinct-rising, rising-unique}
+use Rattle.list_lemmas.proofs.InOrder.{rising-unique}
+use Rattle.list_lemmas.proofs.Orderings.{then-Equal}
+use Rattle.trace_base.proofs.InOrder.{distinct-rising}
 use Rattle.trace_base.specs.InOrder.{IsRisingListOf}
 use Rattle.trace_base.specs.Matrix.{pair_cmp, pair_of, pairs_of}
 use Rattle.trace_base.specs.declared.messages.Message.{Message}
@@ -15,11 +16,6 @@ use Rattle.trace_base.specs.declared.messages.Message.{Message}
 pub pair_cmp-total : IsTotalOrder pair_cmp
 pair_cmp-total = then_total (on_total (λ (p : ℕ × ℕ). p.0) nat_cmp_total)
     (on_total (λ (p : ℕ × ℕ). p.1) nat_cmp_total)
-
-then-Equal : (r s : Ordering) → ordering_then r s ≡ Equal → (r ≡ Equal) × (s ≡ Equal)
-then-Equal Less s h = cc
-then-Equal Equal s h = (refl, h)
-then-Equal Greater s h = cc
 
 pair_cmp-Equal : (p q : ℕ × ℕ) → pair_cmp p q ≡ Equal → p ≡ q
 pair_cmp-Equal (a, b) (c, d) h =

@@ -35,9 +35,3 @@ pub struct TraceInfo {
     pub names: TraceNames,
     pub messages: MsgTable,
 }
-
-/// The number of a trace's tracks.
-#[derive(Clone, Copy, Debug, PartialEq, Eq)]
-pub struct Brief {
-    pub tracks: u32,
-}

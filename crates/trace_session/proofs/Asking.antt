@@ -4,13 +4,13 @@ use Rattle.std.proofs.Common.{Option, refl, sym, ap, ◌∙◌, subst, inr, arit
 use Rattle.std.proofs.lemmas.List.{take_all}
 use Rattle.trace_base.specs.Flat.{flat}
 use Rattle.trace_base.specs.Outside.{Told}
-use Rattle.trace_base.specs.declared.asks.AskIds.TheVariants.{One}
+use Rattle.hall_history.specs.declared.asks.AskIds.TheVariants.{One}
 use Rattle.hall_trait.specs.Answers.{PinsTraces, TellsUnknown, TellsUsedUp, RecordsUsedUp, RecordsNone}
 use Rattle.hall_trait.specs.Answers.{NextsRise}
-use Rattle.node_key.specs.History.{Entry, Asked, is_open}
+use Rattle.hall_history.specs.History.{Entry, Asked, is_open}
 use Rattle.hall_trait.specs.Pin.{pin_view}
-use Rattle.node_key.specs.Seat.{Seat, MakesNoEntry, IsAtRest, Removes}
-use Rattle.node_key.specs.declared.seat.PinView.{PinView}
+use Rattle.hall_history.specs.Seat.{Seat, MakesNoEntry, IsAtRest, Removes}
+use Rattle.hall_history.specs.declared.seat.PinView.{PinView}
 use Rattle.hall_trait.specs.declared.pin.Pin.{Pin}
 use Rattle.session_proto.specs.declared.reply.No.TheVariants as no
 use Rattle.session_proto.specs.declared.reply.Reply.{Reply}

@@ -3,8 +3,9 @@ use Rattle.std.proofs.Common.{◌≡◌, ◌≢◌, ℕ, Bool, List, [], ◌∷�
 use Rattle.std.proofs.Common.{ap, ◌∙◌, subst, append_assoc}
 use Rattle.std.proofs.lemmas.List.{append-nil}
 use Rattle.trace_base.specs.Outside.{Told}
-use Rattle.node_key.specs.History.{IsLegalHistory}
-use Rattle.node_key.specs.Seat.{Begins}
+use Rattle.trace_base.proofs.Telling.{told_as, told_then}
+use Rattle.hall_history.specs.History.{IsLegalHistory}
+use Rattle.hall_history.specs.Seat.{Begins}
 use Rattle.session_proto.specs.Reply.{reply_text}
 use Rattle.session_proto.specs.declared.reply.Reply.{Reply}
 use Rattle.request_reader.proofs.Cutting.{requests_of-append, requests_of-quit, requests_of-none}
@@ -23,7 +24,6 @@ use Rattle.trace_session.specs.declared.sessions.End.{End}
 use Rattle.trace_session.specs.declared.sessions.End.TheVariants as ends
 use Rattle.trace_session.proofs.Sofar.{Sofar, Done, Spell, HasRead, HasWritten, in_front, one_more, done_more}
 use Rattle.trace_session.proofs.Sofar.{written_more, requests_more}
-use Rattle.trace_session.proofs.Telling.{told_then, told_as}
 
 -- what is left to read is what waits, and what is left in the source
 told_pending : (p : List ℕ) (P R : List ℕ → List ℕ → Type 0) (a src : Option (List ℕ))

@@ -1,22 +1,16 @@
 -- A seat that makes entries, one after another.
-use Rattle.std.proofs.Common.{◌≡◌, ℕ, ◌<◌, zero, suc, Bool, true, false, List, [], ◌∷◌, ◌++◌, length, map}
+use Rattle.std.proofs.Common.{◌≡◌, ℕ, ◌<◌, zero, suc, Bool, List, [], ◌∷◌, ◌++◌, length, map}
 use Rattle.std.proofs.Common.{slice_get, Option, Some, refl, sym, ap, ◌∙◌, subst, arith, append_assoc}
 use Rattle.std.proofs.Common.{length-append, append-nil}
 use Rattle.std.proofs.lemmas.List.{length-map}
-use Rattle.std.specs.Bool.{OnTrue}
-use Rattle.node_key.specs.History.{Entry}
-use Rattle.node_key.specs.Seat.{Seat, Begins, MakesEntry, MakesNoEntry}
+use Rattle.list_lemmas.proofs.Booleans.{OnTrue-all, OnTrue-both, OnTrue-by}
+use Rattle.list_lemmas.proofs.Positions.{slice_get-more}
+use Rattle.hall_history.specs.History.{Entry}
+use Rattle.hall_history.specs.Seat.{Seat, Begins, MakesEntry, MakesNoEntry}
 use Rattle.trace_session.specs.Replies.{entry_at}
 use Rattle.trace_session.specs.Served.{AreAt, Rise, last_place}
 use Rattle.trace_session.specs.Serving.{Grows}
 use Rattle.trace_session.proofs.Rising.{Rise-push, Rise-append}
-
--- an item stays where it is in a list that goes on
-slice_get-more : {X : Type 0} (xs more : List X) (i : ℕ) (x : X) → slice_get xs i ≡ Some x
-    → slice_get (xs ++ more) i ≡ Some x
-slice_get-more [] more i x is = absurd (cc)
-slice_get-more (y ∷ ys) more zero x is = is
-slice_get-more (y ∷ ys) more (suc i) x is = slice_get-more ys more i x is
 
 -- so does an entry at its place
 pub entry_at-more : (history more : List Entry) (k : ℕ) (e : Entry) → entry_at history k ≡ Some e
@@ -96,19 +90,6 @@ last_place-push (j ∷ i ∷ block) k = last_place-push (i ∷ block) k
 
 pub Begins-trans : {X : Type 0} (xs ys zs : List X) → Begins xs ys → Begins ys zs → Begins xs zs
 Begins-trans xs ys zs a b = (a.0 ++ b.0, b.1 ∙ ap (λ l. l ++ b.0) a.1 ∙ append_assoc xs a.0 b.0)
-
--- what holds for a seat that is alone
-pub OnTrue-both : {P Q R : Type 0} (b : Bool) → (P → Q → R) → OnTrue b P → OnTrue b Q → OnTrue b R
-OnTrue-both true f p q = f p q
-OnTrue-both false f p q = tt
-
-pub OnTrue-by : {P Q : Type 0} (b : Bool) → (P → Q) → OnTrue b P → OnTrue b Q
-OnTrue-by true f p = f p
-OnTrue-by false f p = tt
-
-pub OnTrue-all : {P : Type 0} (b : Bool) → P → OnTrue b P
-OnTrue-all true p = p
-OnTrue-all false p = tt
 
 -- nothing was made
 pub grows_none : (alone : Bool) (s : Seat) → Grows alone s s [] []

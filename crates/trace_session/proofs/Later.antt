@@ -3,7 +3,7 @@ use Rattle.std.proofs.Common.{◌≡◌, ℕ, zero, suc, ◌≤◌, Bool, List, 
 use Rattle.std.proofs.Common.{slice_get, Some, sym, ap, ◌∙◌, subst, arith, length-append}
 use Rattle.std.proofs.lemmas.List.{take-append-le}
 use Rattle.std.specs.List.{AllByRecursion}
-use Rattle.node_key.specs.History.{Entry}
+use Rattle.hall_history.specs.History.{Entry}
 use Rattle.trace_session.specs.Replies.{entry_at}
 use Rattle.trace_session.specs.Served.{Served, IsServed, IsAnswered, Standing, standing, AreAt, last_place}
 use Rattle.trace_session.proofs.Grow.{AreAt-more}
@@ -58,8 +58,3 @@ pub all_later : (alone : Bool) (history more : List Entry) (served : List Served
 all_later alone history more [] all = tt
 all_later alone history more (x ∷ xs) all =
     (IsServed-more alone history more x all.0, all_later alone history more xs all.1)
-
-pub all_push : (P : Served → Type 0) (served : List Served) (x : Served) → AllByRecursion P served → P x
-    → AllByRecursion P (served ++ x ∷ [])
-all_push P [] x all here = (here, tt)
-all_push P (y ∷ ys) x all here = (all.0, all_push P ys x all.1 here)

@@ -1,4 +1,5 @@
 pub mod Asking
+pub mod Causes
 pub mod Ending
 pub mod Grow
 pub mod Later
@@ -13,4 +14,3 @@ pub mod Staking
 pub mod Stepping
 pub mod Streams
 pub mod Telling
-pub mod Words

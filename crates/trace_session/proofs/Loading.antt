@@ -1,20 +1,21 @@
 -- A load under way: so many tracks are published.
 use Rattle.std.proofs.Common.{◌≡◌, ℕ, ◌+◌, ◌<◌, suc, Bool, false, eqb, List, [], ◌∷◌, ◌++◌, length, take}
 use Rattle.std.proofs.Common.{slice_get, Option, None, Some, refl, sym, ap, ◌∙◌, subst, arith}
-use Rattle.std.proofs.Common.{length-append, append-nil, zero-add}
+use Rattle.std.proofs.Common.{length-append, zero-add}
 use Rattle.std.proofs.lemmas.Bool.Decides.{nat_tests}
 use Rattle.std.proofs.Math.Seq.{take-append_seam}
-use Rattle.trace_base.specs.declared.asks.PassState.{PassState}
-use Rattle.trace_base.specs.declared.asks.PassState.TheVariants.{Straight}
+use Rattle.list_lemmas.proofs.Fronts.{replaced_whole}
+use Rattle.hall_history.specs.declared.asks.PassState.{PassState}
+use Rattle.hall_history.specs.declared.asks.PassState.TheVariants.{Straight}
 use Rattle.trace_base.specs.declared.names.TraceInfo.{TraceInfo}
 use Rattle.trace_base.specs.declared.stream.TrackStream.{TrackStream}
 use Rattle.hall_trait.specs.Answers.{CoversAll, MakesLoadEntry, left_after}
-use Rattle.node_key.specs.History.{Entry, Published, Sealed, Dropped, FitsTrack, info_of, info_opened}
-use Rattle.node_key.specs.History.{published_tree}
+use Rattle.hall_history.specs.History.{Entry, Published, Sealed, Dropped, FitsTrack, info_of, info_opened}
+use Rattle.hall_history.specs.History.{published_tree}
 use Rattle.node_key.specs.declared.stake.Stake.{Stake}
 use Rattle.hall_trait.specs.Pass.{pass_view, state_at, state_after, advanced, IsNext, IsFresh}
-use Rattle.node_key.specs.Seat.{Seat, Begins, IsAtRest, Becomes, ExchangesStakes}
-use Rattle.node_key.specs.declared.seat.PassView.{PassView}
+use Rattle.hall_history.specs.Seat.{Seat, Begins, IsAtRest, Becomes, ExchangesStakes}
+use Rattle.hall_history.specs.declared.seat.PassView.{PassView}
 use Rattle.hall_trait.specs.declared.pass.LoadPass.{LoadPass}
 use Rattle.std.specs.List.{filter_map, cons_option}
 use Rattle.trace_session.specs.Load.{AreTracksOf, PublishesAll, GivesUp}
@@ -22,16 +23,8 @@ use Rattle.trace_session.specs.Served.{published_from}
 use Rattle.trace_session.specs.Serving.{Grows}
 use Rattle.trace_session.proofs.Grow.{grows_none, Grows-more, Grows-still, Begins-trans}
 
--- where one item is all that there is, others stand in its stead
-became : {X : Type 0} (x : X) (ys stead front back : List X) → x ∷ [] ≡ front ++ x ∷ back
-    → ys ≡ front ++ (stead ++ back) → ys ≡ stead
-became {X} x ys stead [] back was now =
-    let none : [] ≡ back = cc in now ∙ ap (λ (l : List X). stead ++ l) (sym none) ∙ append-nil stead
-became {X} x ys stead (f ∷ fs) back was now =
-    absurd (omega (arith, ap length was, length-append fs (x ∷ back)))
-
 pub Becomes-one : {X : Type 0} (x : X) (ys stead : List X) → Becomes (x ∷ []) ys x stead → ys ≡ stead
-Becomes-one x ys stead b = became x ys stead b.front b.back b.was b.now
+Becomes-one x ys stead b = replaced_whole x ys stead b.front b.back b.was b.now
 
 -- what a trace was opened with stays
 first_option : (o : Option TraceInfo) (is more : List TraceInfo) (info : TraceInfo)

@@ -2,7 +2,7 @@
 use Rattle.std.proofs.Common.{◌≡◌, ◌≤◌, ℕ, zero, suc, inl, inr, List, [], ◌∷◌, Option, None, Some}
 use Rattle.std.proofs.Common.{Err, refl, ap, arith}
 use Rattle.std.specs.List.{AllByRecursion, AllZip}
-use Rattle.trace_base.proofs.Order.{all_mapped}
+use Rattle.list_lemmas.proofs.Each.{all_mapped}
 use Rattle.shard_core.specs.Room.{Room}
 use Rattle.builders.specs.Spending.{BuildSpends, HasFullRoom, IsStoreSpent}
 use Rattle.hall_trait.specs.Answers.{NextsRise}

@@ -13,8 +13,8 @@ use Rattle.trace_base.specs.declared.names.TraceInfo.{TraceInfo}
 use Rattle.trace_base.specs.declared.text.TraceText.{TraceText}
 use Rattle.hall_trait.specs.Answers.{Admits, AdmitRecords, HasRoom, places_taken, places_of_load, RecordsNone}
 use Rattle.hall_trait.specs.Answers.{OpensTrace, TellsFull, TellsUsedUp}
-use Rattle.node_key.specs.History.{Entry, Opened, Sealed, Dropped, Asked, open_ids}
-use Rattle.node_key.specs.Seat.{Seat, Begins, IsAtRest}
+use Rattle.hall_history.specs.History.{Entry, Opened, Sealed, Dropped, Asked, open_ids}
+use Rattle.hall_history.specs.Seat.{Seat, Begins, IsAtRest}
 use Rattle.hall_trait.specs.declared.answers.HallFault.{HallFault}
 use Rattle.hall_trait.specs.declared.answers.HallFault.TheVariants as fault
 use Rattle.hall_trait.specs.declared.pass.LoadPass.{LoadPass}

@@ -1,6 +1,6 @@
 -- Requests that need nothing of the hall, and the request that came.
 use Rattle.std.proofs.Common.{◌≡◌, ℕ, Bool, List, refl, sym, subst}
-use Rattle.node_key.specs.Seat.{IsAtRest}
+use Rattle.hall_history.specs.Seat.{IsAtRest}
 use Rattle.request_reader.specs.Requests.{WholeRequest, Line, Load, Large, Unreadable}
 use Rattle.session_proto.specs.declared.reply.No.TheVariants as no
 use Rattle.session_proto.specs.declared.reply.Reply.{Reply}

@@ -6,9 +6,12 @@ use Rattle.std.proofs.lemmas.List.{append-nil, map-append}
 use Rattle.std.proofs.lemmas.List.Elements.{filter_map-append}
 use Rattle.std.specs.Bool.{OnTrue}
 use Rattle.std.specs.List.{AllByRecursion, cons_option}
+use Rattle.list_lemmas.proofs.Booleans.{OnTrue-all, OnTrue-both}
+use Rattle.list_lemmas.proofs.Each.{all_push}
 use Rattle.trace_base.specs.Outside.{Told}
-use Rattle.node_key.specs.History.{Entry}
-use Rattle.node_key.specs.Seat.{Begins, IsAtRest}
+use Rattle.trace_base.proofs.Telling.{told_same, told_then}
+use Rattle.hall_history.specs.History.{Entry}
+use Rattle.hall_history.specs.Seat.{Begins, IsAtRest}
 use Rattle.session_proto.specs.Reply.{reply_text}
 use Rattle.session_proto.specs.declared.reply.Reply.{Reply}
 use Rattle.request_reader.proofs.Cutting.{requests_of-append}
@@ -24,10 +27,9 @@ use Rattle.trace_session.specs.Serving.{Serves}
 use Rattle.trace_session.specs.Session.{ComeInOrder, requests_served}
 use Rattle.trace_session.specs.State.{Backend, SessionState}
 use Rattle.trace_session.specs.Step.{TakesOne}
-use Rattle.trace_session.proofs.Grow.{Begins-trans, AreAt-length, OnTrue-all, OnTrue-both}
-use Rattle.trace_session.proofs.Later.{all_later, all_push}
+use Rattle.trace_session.proofs.Grow.{Begins-trans, AreAt-length}
+use Rattle.trace_session.proofs.Later.{all_later}
 use Rattle.trace_session.proofs.Rising.{ComeInOrder-push}
-use Rattle.trace_session.proofs.Telling.{told_then, told_same}
 
 -- what was served, apart from what was read and written
 pub record Done (alone : Bool) (old now : Backend) (served : List Served) : Type 0 where

@@ -2,6 +2,7 @@
 use Rattle.std.proofs.Common.{◌≡◌, ◌≢◌, ℕ, Bool, List, [], ◌++◌, Option, None, Some, Ok, Err, refl, sym}
 use Rattle.std.proofs.Common.{◌∙◌, ap, subst, inl, inr}
 use Rattle.trace_base.specs.Outside.{Told}
+use Rattle.trace_base.proofs.Telling.{told_as}
 use Rattle.session_proto.specs.declared.reply.No.TheVariants as no
 use Rattle.session_proto.specs.declared.reply.Reply.{Reply}
 use Rattle.session_proto.specs.declared.reply.Reply.TheVariants as reply
@@ -20,7 +21,7 @@ use Rattle.trace_session.specs.Step.{Steps, AnswersOne, EndsWith, EndsBehind, Wr
 use Rattle.trace_session.specs.Text.{IsTold}
 use Rattle.trace_session.specs.declared.sessions.End.{End}
 use Rattle.trace_session.specs.declared.sessions.End.TheVariants as ends
-use Rattle.trace_session.proofs.Telling.{Serves-untold, told_as}
+use Rattle.trace_session.proofs.Telling.{Serves-untold}
 
 -- the reply that is told was served, and its text written
 answered_one : (alone : Bool) (old new : SessionState) (request : WholeRequest) (result : Option End)

@@ -1,19 +1,12 @@
 -- The published streams of a trace, one track after another.
-use Rattle.std.proofs.Common.{◌≡◌, ℕ, ◌+◌, zero, suc, List, [], ◌∷◌, ◌++◌, length, map, Option, None, Some}
+use Rattle.std.proofs.Common.{◌≡◌, ℕ, ◌+◌, suc, List, [], ◌∷◌, ◌++◌, length, map, Option, None, Some}
 use Rattle.std.proofs.Common.{refl, sym, ap, ◌∙◌, arith, option_to_list, length-append, ◌≤◌, Bor, take}
 use Rattle.std.proofs.lemmas.List.{append-nil, map-append}
 use Rattle.std.proofs.lemmas.List.Elements.{filter_map-append, All-push}
 use Rattle.std.specs.List.{All, filter_map, range_with_len}
+use Rattle.list_lemmas.proofs.Ranges.{range_with_len-suc}
 use Rattle.trace_base.specs.Stream.{IsLegal}
 use Rattle.trace_base.specs.declared.stream.TrackStream.{TrackStream}
-
--- one number more
-pub range_more : (a n : ℕ) → range_with_len a (suc n) ≡ range_with_len a n ++ (a + n) ∷ []
-range_more a zero = let here : a ≡ a + 0 = omega arith in ap (λ (k : ℕ). k ∷ []) here
-range_more a (suc n) =
-    let next : a + 1 + n ≡ a + suc n = omega arith in
-    ap (λ (l : List ℕ). a ∷ l) (range_more (a + 1) n ∙ ap (λ (k : ℕ). range_with_len (a + 1) n ++ k ∷ [])
-    next)
 
 one : (f : ℕ → Option TrackStream) (k : ℕ) (o : Option TrackStream) → f k ≡ o
     → filter_map f (k ∷ []) ≡ option_to_list o
@@ -27,7 +20,7 @@ streams_more f track o is =
     let count : track + 1 ≡ suc track = omega arith in
     let at : 0 + track ≡ track = omega arith in
     ap (λ (n : ℕ). filter_map f (range_with_len 0 n)) count
-    ∙ ap (filter_map f) (range_more 0 track)
+    ∙ ap (filter_map f) (range_with_len-suc 0 track)
     ∙ filter_map-append f (range_with_len 0 track) ((0 + track) ∷ [])
     ∙ ap (λ (l : List TrackStream). filter_map f (range_with_len 0 track) ++ l)
     (ap (λ (k : ℕ). filter_map f (k ∷ [])) at ∙ one f track o (sym is))

@@ -2,7 +2,7 @@
 use Rattle.std.specs.Prelude.{ℕ, List, [], ◌∷◌, ◌++◌, codes, flat_map}
 use Rattle.trace_base.specs.Examples as streams
 use Rattle.trace_base.specs.declared.text.TraceText.{TraceText}
-use Rattle.node_key.specs.History.{Entry, Opened, Published, Sealed, Asked, published_tree}
+use Rattle.hall_history.specs.History.{Entry, Opened, Published, Sealed, Asked, published_tree}
 use Rattle.paje_lines.specs.Text.{info_of_text}
 
 -- the lines that define six events, a type of containers and one of states

@@ -4,8 +4,8 @@ use Rattle.std.specs.Prelude.{Err}
 use Rattle.trace_base.specs.Info.{Fits}
 use Rattle.trace_base.specs.declared.names.TraceInfo.{TraceInfo}
 use Rattle.trace_base.specs.declared.stream.TrackStream.{TrackStream}
-use Rattle.node_key.specs.History.{Entry, Sealed, Dropped, info_of}
-use Rattle.node_key.specs.Seat.{Seat, IsAtRest}
+use Rattle.hall_history.specs.History.{Entry, Sealed, Dropped, info_of}
+use Rattle.hall_history.specs.Seat.{Seat, IsAtRest}
 use Rattle.hall_trait.specs.declared.answers.HallFault.{HallFault}
 use Rattle.hall_trait.specs.declared.answers.HallFault.TheVariants as fault
 use Rattle.session_proto.specs.declared.reply.No.TheVariants as no

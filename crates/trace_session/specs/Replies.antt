@@ -10,7 +10,7 @@ use Rattle.trace_base.specs.declared.profile.Row.{Row}
 use Rattle.trace_base.specs.declared.profile.Profile.{Profile}
 use Rattle.trace_base.specs.declared.stream.TrackStream.{TrackStream}
 use Rattle.trace_base.specs.declared.text.TraceText.{TraceText}
-use Rattle.node_key.specs.History.{Entry, info_of, stream_of, is_open, tracks_of}
+use Rattle.hall_history.specs.History.{Entry, info_of, stream_of, is_open, tracks_of}
 use Rattle.session_proto.specs.declared.reply.NamedRow.{NamedRow}
 use Rattle.session_proto.specs.declared.reply.No.TheVariants as no
 use Rattle.session_proto.specs.declared.reply.Reply.{Reply}

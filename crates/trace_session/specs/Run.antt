@@ -1,9 +1,9 @@
 -- What a run of the program does.
 use Rattle.std.specs.Prelude.{◌≡◌, ◌⊎◌, ℕ, true, List, [], ◌∷◌, ◌++◌, codes, Option, None, Some}
-use Rattle.trace_base.specs.Outside.{Told}
-use Rattle.node_key.specs.Left.{left_of}
-use Rattle.node_key.specs.Seat.{Seat}
-use Rattle.node_key.specs.declared.left.Left.{Left}
+use Rattle.trace_base.specs.Outside.{Rose, Told}
+use Rattle.hall_history.specs.Left.{left_of}
+use Rattle.hall_history.specs.Seat.{Seat}
+use Rattle.hall_history.specs.declared.left.Left.{Left}
 use Rattle.session_proto.specs.Reply.{spaced}
 use Rattle.shard_core.specs.Room.{Room}
 use Rattle.store_laws.specs.Store.{empty_store}
@@ -34,27 +34,44 @@ status_of ends.Cut = 6
 status_of ends.ReadFault = 3
 status_of ends.WriteFault = 3
 
+-- what a source tells: the bytes that are left to read, and how often it failed
+pub record SourceState : Type 0 where
+  pub left : Option (List ℕ)
+  pub faults : ℕ
+
+-- what a sink tells: the bytes that it holds, and how often it failed
+pub record SinkState : Type 0 where
+  pub held : Option (List ℕ)
+  pub faults : ℕ
+
+-- a session ends by a fault only where that object's own count of faults rose in it
+abbrev pub EndsByCause : End → SourceState → SourceState → SinkState → SinkState → Type 0
+EndsByCause ends.ReadFault source source' sink sink' = Rose source.faults source'.faults
+EndsByCause ends.WriteFault source source' sink sink' = Rose sink.faults sink'.faults
+EndsByCause end source source' sink sink' = Unit {0}
+
 -- What is written behind a session, and the status: the line that tells what is left. Where the sink failed
--- in the session nothing is, and where it fails then, a front of the line alone.
-abbrev pub TellsLeft : End → Left → Option (List ℕ) → Option (List ℕ) → ℕ → Type 0
-TellsLeft ends.WriteFault left held held' status = (held' ≡ held) × (status ≡ 3)
-TellsLeft end left held held' status =
-    (Told held held' (λ was now. now ≡ was ++ left_text left) × (status ≡ status_of end))
-    ⊎ (Told held held' (WritesFront (left_text left)) × (status ≡ 3))
+-- in the session nothing is, and where its count of faults rises then, a front of the line alone.
+abbrev pub TellsLeft : End → Left → SinkState → SinkState → ℕ → Type 0
+TellsLeft ends.WriteFault left sink sink' status = (sink' ≡ sink) × (status ≡ 3)
+TellsLeft end left sink sink' status =
+    (Told sink.held sink'.held (λ was now. now ≡ was ++ left_text left) × (status ≡ status_of end))
+    ⊎ (Told sink.held sink'.held (WritesFront (left_text left)) × Rose sink.faults sink'.faults
+    × (status ≡ 3))
 
 -- what a new hall serves from, whose store has no nodes and gives its first numbers next
 abbrev pub new_backend : Backend
 new_backend = record { seat = new_seat; used_up = None; rooms = Some (empty_store 0) }
 
 -- One session over a new hall that no one else acts in; then what is left of its loads is told. `rooms` are
--- those of the hall's store at the end, and `middle` is what the sink holds behind the session.
-abbrev pub RunsBatch : Option (List ℕ) → Option (List ℕ) → Option (List ℕ) → Option (List ℕ) → ℕ → Type 0
-RunsBatch left left' held held' status =
-    (end : End) × (seat : Seat) × (rooms : List Room) × (middle : Option (List ℕ))
-    × IsSession true (record { backend = new_backend; left = left; held = held })
+-- those of the hall's store at the end, and `middle` is what the sink tells behind the session.
+abbrev pub RunsBatch : SourceState → SourceState → SinkState → SinkState → ℕ → Type 0
+RunsBatch source source' sink sink' status =
+    (end : End) × (seat : Seat) × (rooms : List Room) × (middle : SinkState)
+    × IsSession true (record { backend = new_backend; left = source.left; held = sink.held })
     (record {
       backend = record { seat = seat; used_up = None; rooms = Some rooms };
-      left = left';
-      held = middle;
+      left = source'.left;
+      held = middle.held;
     }) end
-    × TellsLeft end (left_of seat.seen) middle held' status
+    × EndsByCause end source source' sink middle × TellsLeft end (left_of seat.seen) middle sink' status

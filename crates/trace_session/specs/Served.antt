@@ -6,7 +6,8 @@ use Rattle.trace_base.specs.declared.limits.TheConstants.{MAX_OPEN_TRACES}
 use Rattle.trace_base.specs.declared.stream.TrackStream.{TrackStream}
 use Rattle.trace_base.specs.declared.text.TraceText.{TraceText}
 use Rattle.hall_trait.specs.Answers.{HasRoom, LeavesNoRoom, places_taken, places_of_load}
-use Rattle.node_key.specs.History.{Entry, Opened, Published, Sealed, Dropped, Asked, open_ids, published_tree}
+use Rattle.hall_history.specs.History.{Entry, Opened, Published, Sealed, Dropped, Asked, open_ids}
+use Rattle.hall_history.specs.History.{published_tree}
 use Rattle.shard_core.specs.Room.{Room}
 use Rattle.builders.specs.Spending.{IsStoreSpent}
 use Rattle.session_proto.specs.Reply.{reply_text}

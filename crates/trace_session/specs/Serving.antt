@@ -2,8 +2,8 @@
 use Rattle.std.specs.Prelude.{◌≡◌, ℕ, Bool, List, ◌++◌, length, Option, option_to_list}
 use Rattle.std.specs.Bool.{OnTrue}
 use Rattle.trace_base.specs.Outside.{Told}
-use Rattle.node_key.specs.History.{Entry}
-use Rattle.node_key.specs.Seat.{Seat, Begins, IsAtRest}
+use Rattle.hall_history.specs.History.{Entry}
+use Rattle.hall_history.specs.Seat.{Seat, Begins, IsAtRest}
 use Rattle.session_proto.specs.declared.reply.Reply.{Reply}
 use Rattle.request_reader.specs.Requests.{WholeRequest}
 use Rattle.hall_trait.specs.Answers.{NextsRise}

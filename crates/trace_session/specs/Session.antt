@@ -3,8 +3,8 @@ use Rattle.std.specs.Prelude.{◌≡◌, ◌≢◌, ℕ, ◌+◌, Bool, List, []
 use Rattle.std.specs.Bool.{OnTrue}
 use Rattle.std.specs.List.{AllByRecursion}
 use Rattle.trace_base.specs.Outside.{Told}
-use Rattle.node_key.specs.History.{IsLegalHistory}
-use Rattle.node_key.specs.Seat.{Begins, IsAtRest}
+use Rattle.hall_history.specs.History.{IsLegalHistory}
+use Rattle.hall_history.specs.Seat.{Begins, IsAtRest}
 use Rattle.session_proto.specs.Reply.{reply_text}
 use Rattle.request_reader.specs.Requests.{WholeRequest, Requests, AfterQuit, Between, Inside}
 use Rattle.request_reader.specs.Requests.{requests_of}

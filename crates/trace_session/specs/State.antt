@@ -1,6 +1,6 @@
 -- What a session works on. Each part is an object that another crate describes.
 use Rattle.std.specs.Prelude.{ℕ, List, Option}
-use Rattle.node_key.specs.Seat.{Seat}
+use Rattle.hall_history.specs.Seat.{Seat}
 use Rattle.shard_core.specs.Room.{Room}
 
 -- What requests are served from: a seat of a hall, the numbers that the hall told it as used up, and the

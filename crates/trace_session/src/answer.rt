@@ -1,6 +1,6 @@
 ghost use Rattle.std.specs.Prelude.{◌≡◌, ◌≤◌, ℕ, List, Option, Some};
 ghost use Rattle.trace_base.specs.Outside.{Rose};
-ghost use Rattle.node_key.specs.Seat.{IsAtRest};
+ghost use Rattle.hall_history.specs.Seat.{IsAtRest};
 ghost use Rattle.request_reader.specs.Incoming.{Is, ComesWithinLimits};
 ghost use Rattle.request_reader.specs.Requests.{WholeRequest};
 ghost use Rattle.trace_session.specs.Step.{AnswersOne, EndsWith};

@@ -2,7 +2,7 @@
 ghost use Rattle.std.specs.Prelude.{◌≡◌, [], ◌∷◌, ◌++◌, Bool, List, codes};
 ghost use Rattle.trace_base.specs.Examples.{two_calls as calls_stream};
 ghost use Rattle.trace_base.specs.Stream.{pieces};
-ghost use Rattle.node_key.specs.History.{Entry};
+ghost use Rattle.hall_history.specs.History.{Entry};
 ghost use Rattle.request_reader.specs.Requests.{requests_of, Line, Load, AfterQuit};
 ghost use Rattle.session_proto.specs.declared.request.Request.TheVariants.{Flat, Quit};
 ghost use Rattle.session_proto.specs.declared.request.Sel.TheVariants.{All};
@@ -37,7 +37,7 @@ pub fn requests_of_first_input()
 {}
 
 /// The reply to its profile, at its place in the history.
-#[tactic(auto, unfolding(trace_base::specs::Stream::stack_after, trace_base::specs::Stream::pieces, trace_base::specs::Flat::time_with, trace_base::specs::Flat::calls_in, trace_base::specs::Flat::row_of, trace_base::specs::Flat::greatest_function, trace_base::specs::Flat::flat, node_key::specs::History::opened_ids, node_key::specs::History::info_of, node_key::specs::History::published_of, node_key::specs::History::stream_of, node_key::specs::Trees::tree, node_key::specs::Bound::bound, node_key::specs::Calls::outer_calls, node_key::specs::Events::events, node_key::specs::History::is_open, crate::specs::Replies::streams_of, crate::specs::Replies::flat_reply))]
+#[tactic(auto, unfolding(trace_base::specs::Stream::stack_after, trace_base::specs::Stream::pieces, trace_base::specs::Flat::time_with, trace_base::specs::Flat::calls_in, trace_base::specs::Flat::row_of, trace_base::specs::Flat::greatest_function, trace_base::specs::Flat::flat, hall_history::specs::History::opened_ids, hall_history::specs::History::info_of, hall_history::specs::History::published_of, hall_history::specs::History::stream_of, node_key::specs::Trees::tree, node_key::specs::Bound::bound, node_key::specs::Calls::outer_calls, node_key::specs::Events::events, hall_history::specs::History::is_open, crate::specs::Replies::streams_of, crate::specs::Replies::flat_reply))]
 pub fn reply_of_first_profile()
     ensures open { flat_reply first_history 4 1 0 500000000 ≡ FlatReply 1 0
         (record {

@@ -6,7 +6,7 @@ ghost use Rattle.trace_session.specs.declared.sessions.End.TheVariants.{ReadFaul
 use crate::left::left_into;
 use crate::output::{WriteFailed, write_all};
 use crate::sessions::End;
-use node_key::Left;
+use hall_history::Left;
 use trace_base::Sink;
 
 /// The status where the source or the sink failed.
@@ -19,7 +19,8 @@ const CUT: u8 = 6;
 /// buffer is for the line.
 pub fn tell_left<O: Sink>(output: &mut O, left: Left, end: End, text: &mut Vec<u8>) -> u8
     requires { 200 ≤ vec_capacity text.old }
-    ensures told { TellsLeft end left (O.held output.old) (O.held output.new) result }
+    ensures told { TellsLeft end left (record { held = O.held output.old; faults = O.faults output.old })
+        (record { held = O.held output.new; faults = O.faults output.new }) result }
     ensures later { O.faults output.old ≤ O.faults output.new }
     ensures cause { result ≡ 3 → (end ≡ ReadFault) ⊎ (end ≡ WriteFault)
         ⊎ Rose (O.faults output.old) (O.faults output.new) }

@@ -2,8 +2,8 @@ ghost use Rattle.std.specs.Prelude.{◌≡◌, ◌+◌, ◌≤◌, ◌++◌, len
 ghost use Rattle.session_proto.specs.Reply.{spaced};
 ghost use Rattle.trace_session.specs.Run.{left_text};
 
+use hall_history::Left;
 use itoa::Buffer;
-use node_key::Left;
 
 /// Puts the line that tells what is left of the loads in place of what the buffer holds.
 pub fn left_into(left: Left, out: &mut Vec<u8>)

@@ -17,6 +17,3 @@ mod text;
 pub use buffer::SessionBuf;
 pub use program::run;
 pub use sessions::{End, session};
-
-#[cfg(test)]
-mod tests;

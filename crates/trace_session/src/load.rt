@@ -1,6 +1,6 @@
 ghost use Rattle.std.specs.Prelude.{◌≡◌, ◌≤◌, ℕ, List, [], ◌∷◌, length};
 ghost use Rattle.trace_base.specs.Info.{IsLegalInfo};
-ghost use Rattle.node_key.specs.Seat.{IsAtRest};
+ghost use Rattle.hall_history.specs.Seat.{IsAtRest};
 ghost use Rattle.request_reader.specs.Requests.{Load};
 ghost use Rattle.paje_lines.specs.Text.{info_of_text};
 ghost use Rattle.paje_reader.specs.TextSaid.{Says};

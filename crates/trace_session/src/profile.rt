@@ -3,10 +3,10 @@ ghost use Rattle.std.specs.Prelude.{Contains, IfOk, Some, slice_index_or};
 ghost use Rattle.trace_base.specs.Flat.{flat};
 ghost use Rattle.trace_base.specs.Stream.{IsLegal};
 ghost use Rattle.trace_base.specs.declared.stream.TrackStream.{TrackStream};
-ghost use Rattle.node_key.specs.History.{info_of, tracks_of};
+ghost use Rattle.hall_history.specs.History.{info_of, tracks_of};
 ghost use Rattle.hall_trait.specs.Answers.{NextsRise, RecordsNone};
 ghost use Rattle.hall_trait.specs.Pin.{pin_view, first_id};
-ghost use Rattle.node_key.specs.Seat.{IsAtRest};
+ghost use Rattle.hall_history.specs.Seat.{IsAtRest};
 ghost use Rattle.request_reader.specs.Requests.{Line};
 ghost use Rattle.session_proto.specs.declared.request.Request.TheVariants.{Flat};
 ghost use Rattle.session_proto.specs.declared.request.Sel.TheVariants as sel;
@@ -17,11 +17,12 @@ ghost use Rattle.trace_session.specs.Serving.{Serves};
 
 use builders::published_stream;
 use event_model::flat_of_all;
+use hall_history::AskIds;
 use hall_trait::{AskAnswer, Hall, Pin};
 use session_proto::{NamedRow, No, Reply};
 use std::alloc::Global;
 use std::sync::Wait;
-use trace_base::{AskIds, MAX_TIME, MAX_TRACKS, Memory, Name, Row, Seq, TrackStream};
+use trace_base::{MAX_TIME, MAX_TRACKS, Memory, Name, Row, Seq, TrackStream};
 
 /// Serves a FLAT: the flat profile of the trace's published tracks over the half-open interval [a, b), in
 /// nanoseconds.

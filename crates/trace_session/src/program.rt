@@ -38,7 +38,10 @@ pub fn run<R: Wait, I: Source, O: Sink>(
     output: &mut O,
 ) -> u8
     ensures batch { map string_bytes words.now ≡ codes "batch" ∷ [] → result ≢ 5
-        → RunsBatch (I.left input.old) (I.left input.new) (O.held output.old) (O.held output.new) result }
+        → RunsBatch (record { left = I.left input.old; faults = I.faults input.old })
+        (record { left = I.left input.new; faults = I.faults input.new })
+        (record { held = O.held output.old; faults = O.faults output.old })
+        (record { held = O.held output.new; faults = O.faults output.new }) result }
     ensures memory { result ≡ 5 → (map string_bytes words.now ≡ codes "batch" ∷ []) × (input.new ≡ input.old)
         × (output.new ≡ output.old) }
     ensures unknown { (map string_bytes words.now ≢ codes "batch" ∷ []) → (input.new ≡ input.old)

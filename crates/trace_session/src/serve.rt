@@ -1,5 +1,5 @@
 ghost use Rattle.std.specs.Prelude.{◌≡◌, None};
-ghost use Rattle.node_key.specs.Seat.{IsAtRest};
+ghost use Rattle.hall_history.specs.Seat.{IsAtRest};
 ghost use Rattle.session_proto.specs.Request.{text_length, IsWithinLimits};
 ghost use Rattle.request_reader.specs.Incoming.{Is, ComesWithinLimits};
 ghost use Rattle.request_reader.specs.Requests.{WholeRequest, Line};

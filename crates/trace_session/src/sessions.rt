@@ -1,6 +1,6 @@
 ghost use Rattle.std.specs.Prelude.{◌≡◌, ◌≤◌, ℕ, Some, IsSome};
 ghost use Rattle.trace_base.specs.Outside.{Rose};
-ghost use Rattle.node_key.specs.Seat.{IsAtRest};
+ghost use Rattle.hall_history.specs.Seat.{IsAtRest};
 ghost use Rattle.request_reader.specs.Incoming.{left_to_read};
 ghost use Rattle.request_reader.specs.Requests.{first_request};
 ghost use Rattle.trace_session.specs.Session.{IsSession};

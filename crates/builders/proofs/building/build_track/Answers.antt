@@ -1,7 +1,7 @@
 use Rattle.std.proofs.Common.{◌≡◌, ℕ, ◌+◌, ◌<◌, ◌∷◌, ◌∙◌, List, length, drop, refl, sym, ap, arith, get_or}
+use Rattle.std.proofs.lemmas.List.{drop_more}
 use Rattle.trace_base.specs.declared.stream.Event.{Event}
 use Rattle.trace_base.specs.declared.stream.Event.TheVariants.{Enter}
-use Rattle.call_tree.proofs.Passing.{next_event}
 use Rattle.builders.proofs.BuildingTrack.{BuildingTrack-close, BuildingTrack-next, BuildingTrack-refused}
 use Rattle.builders.proofs.BuildingTrack.{BuildingTrack-root, BuildingTrack-start, BuildingTrack-left}
 use Rattle.builders.proofs.BuildingTrack.{BuildingTrack-step}
@@ -15,7 +15,7 @@ use Rattle.builders.proofs.building.build_track.Goals as goal
 next_in : (es items : List Event) (i : ℕ) → items ≡ es → i < length items
     → drop i es ≡ get_or items i (Enter 0 0) ∷ drop (i + 1) es
 next_in es items i e h =
-    next_event es i (Enter 0 0) (omega (arith, h, ap length e))
+    drop_more es i (Enter 0 0) (omega (arith, h, ap length e))
     ∙ ap (λ (l : List Event). get_or l i (Enter 0 0) ∷ drop (i + 1) es) (sym e)
 
 pub loop-event-init : goal.loop-event-init

@@ -1,8 +1,9 @@
 use Rattle.std.proofs.Common.{◌-◌, length, arith, get_or, refl, ap, sym, ◌∙◌}
+use Rattle.std.proofs.lemmas.List.{drop_more}
 use Rattle.builders.specs.declared.built.BuiltItem.{BuiltItem}
 use Rattle.builders.proofs.KeyKids.{BuiltFitBetween-le, Filled, Filled-within, Filling-end, Filling-next}
 use Rattle.std.proofs.lemmas.List.{length-drop, length-replicate}
-use Rattle.builders.proofs.KeyKids.{no_kid, Filling-step, height_over-leaf, key-stored, next_item}
+use Rattle.builders.proofs.KeyKids.{no_kid, Filling-step, height_over-leaf, key-stored}
 use Rattle.builders.proofs.keys.key_of.Goals as goal
 
 abbrev none : BuiltItem
@@ -15,14 +16,14 @@ overflow_add-from c =
       c.ranges.end.fits,
       Filling-next c.args.start c.args.end c.args.items.now c.loop-i.kids c.loop-i.from c.loop-i.highest
           c.loop-i.i (get_or c.args.items.now c.loop-i.i none)
-          (next_item c.args.items.now c.loop-i.i none (omega arith)) c.loop-i.invariant,
+          (drop_more c.args.items.now c.loop-i.i none (omega arith)) c.loop-i.invariant,
     )
 
 pub loop-i-preserved : goal.loop-i-preserved
 loop-i-preserved c =
     Filling-step c.args.start c.args.end c.args.items.now c.loop-i.kids _ c.loop-i.from _ c.loop-i.highest _
     c.loop-i.i (get_or c.args.items.now c.loop-i.i none)
-    (next_item c.args.items.now c.loop-i.i none (omega arith)) c.loop-i.invariant (omega (
+    (drop_more c.args.items.now c.loop-i.i none (omega arith)) c.loop-i.invariant (omega (
       arith,
       ap length c.loop-i.invariant.later,
       length-drop c.loop-i.i c.loop-i.kids,

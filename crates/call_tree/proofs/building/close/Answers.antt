@@ -1,14 +1,13 @@
-use Rattle.std.proofs.Common.{◌+◌, ◌-◌, ◌<◌, ◌≤◌, List, length, arith, sym, ap, subst, All}
-use Rattle.std.proofs.lemmas.List.Elements.{All-weaker}
+use Rattle.std.proofs.Common.{◌<◌, List, length, arith, sym, ap, subst, All}
 use Rattle.node_key.specs.Tree.{height}
 use Rattle.node_key.specs.Items.{FitBetween}
 use Rattle.node_key.specs.declared.item.Item.{Item}
-use Rattle.node_key.specs.declared.limits.TheConstants.{HEIGHT_BOUND, MAX_HEIGHT, MAX_KIDS}
+use Rattle.node_key.specs.declared.limits.TheConstants.{HEIGHT_BOUND}
 use Rattle.trace_base.specs.declared.limits.TheConstants.{MAX_TIME}
-use Rattle.node_key.specs.Bound.{bound}
-use Rattle.call_tree.proofs.Fits.{FitBetween-lower, FitBetween-upper, FitBetween-bound, Low-bound}
+use Rattle.call_tree.proofs.Fits.{FitBetween-lower, FitBetween-upper, FitBetween-bound}
 use Rattle.call_tree.proofs.Fits.{length-bound-le}
 use Rattle.call_tree.proofs.building.close.Goals as goal
+use Rattle.call_tree.proofs.Fits.{low_bound}
 
 pub split-requires-clause-placed : goal.split-requires-clause-placed
 split-requires-clause-placed c =
@@ -29,16 +28,7 @@ new-requires-clause-within c =
     subst (λ (l : List Item). FitBetween c.args.innermost.start c.args.stop l) (sym c.in_ok-bounded.ensures)
     (FitBetween-bound c.args.innermost.start c.args.stop c.args.innermost.items c.requires.placed)
 
-low_items : (is : List Item) → All (λ i. height i.tree ≤ MAX_HEIGHT - MAX_KIDS) is → length is ≤ 4194304
-    → All (λ i. height i.tree < HEIGHT_BOUND) (bound is)
-low_items is low few =
-    let bounded = Low-bound 7 0 2047 is (omega (arith, few))
-    (All-weaker (λ (i : Item). height i.tree ≤ MAX_HEIGHT - MAX_KIDS) (λ (i : Item). height i.tree
-    + (0 + 7) ≤ 2047) (λ i h. omega arith) is low) in
-    All-weaker (λ (i : Item). height i.tree + 0 ≤ 2047) (λ (i : Item). height i.tree < HEIGHT_BOUND)
-    (λ i h. omega arith) (bound is) bounded
-
 pub new-requires-clause-low : goal.new-requires-clause-low
 new-requires-clause-low c =
     subst (λ (l : List Item). All (λ i. height i.tree < HEIGHT_BOUND) l) (sym c.in_ok-bounded.ensures)
-    (low_items c.args.innermost.items c.requires.low c.requires.few)
+    (low_bound c.args.innermost.items c.requires.low c.requires.few)

@@ -1,13 +1,13 @@
 use Rattle.std.proofs.Common.{◌≡◌, ◌+◌, ◌<◌, List, [], length, arith, subst, sym, ap, ◌∙◌, drop, reverse}
 use Rattle.std.proofs.Common.{get_or}
 use Rattle.std.proofs.lemmas.List.{drop_all}
+use Rattle.std.proofs.lemmas.List.{drop_more}
 use Rattle.trace_base.specs.declared.stream.Event.{Event}
 use Rattle.trace_base.specs.declared.stream.Event.TheVariants.{Enter}
 use Rattle.node_key.specs.declared.item.Item.{Item}
 use Rattle.call_tree.specs.Passing.{MayCome, PassesEvent}
 use Rattle.call_tree.specs.declared.pass.Open.{Open}
 use Rattle.call_tree.proofs.Passing.{Passing, Passing-start, Passing-may_come, Passing-step, Passing-end}
-use Rattle.call_tree.proofs.Passing.{next_event}
 use Rattle.call_tree.proofs.building.tree_of.Goals as goal
 
 pub loop-event-init : goal.loop-event-init
@@ -28,7 +28,7 @@ step-requires c =
     let within : i < length es = omega (arith, ap length c.as_slice-event-items.ensures) in
     let here = subst (λ (l : List Event). Passing c.args.s.now (reverse c.loop-event.around.items)
     c.loop-event.innermost l)
-    (next_event es i (Enter 0 0) within) c.loop-event.invariant in
+    (drop_more es i (Enter 0 0) within) c.loop-event.invariant in
     subst (λ (l : List Event). MayCome (get_or l i (Enter 0 0)) c.loop-event.around.items
     c.loop-event.innermost) (sym c.as_slice-event-items.ensures)
     (Passing-may_come c.args.s.now c.loop-event.around.items c.loop-event.innermost (get_or es i (Enter 0 0))
@@ -41,7 +41,7 @@ loop-event-preserved c =
     let within : i < length es = omega (arith, ap length c.as_slice-event-items.ensures) in
     let here = subst (λ (l : List Event). Passing c.args.s.now (reverse c.loop-event.around.items)
     c.loop-event.innermost l)
-    (next_event es i (Enter 0 0) within) c.loop-event.invariant in
+    (drop_more es i (Enter 0 0) within) c.loop-event.invariant in
     let steps = subst (λ (l : List Event). PassesEvent c.loop-event.around.items c.loop-event.innermost
     (get_or l i (Enter 0 0)) c.step.new.around.items c.in_ok-innermost.innermost)
     c.as_slice-event-items.ensures c.in_ok-innermost.ensures in

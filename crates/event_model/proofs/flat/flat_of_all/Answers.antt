@@ -1,6 +1,6 @@
 use Rattle.std.proofs.Common.{◌∙◌, ◌+◌, sym, arith, map}
+use Rattle.list_lemmas.proofs.Ranges.{filter_of_range-kept, filter_of_range-left}
 use Rattle.trace_base.specs.Flat.{row_of, stands}
-use Rattle.event_model.proofs.Lists.{filter_of_range-kept, filter_of_range-left}
 use Rattle.event_model.proofs.flat.flat_of_all.Goals as goal
 use Rattle.event_model.proofs.flat.flat_of_all.Goals.{then-is_told+in_ok-push, else-is_told}
 

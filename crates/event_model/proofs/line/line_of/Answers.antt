@@ -1,7 +1,7 @@
 use Rattle.std.proofs.Common.{◌≡◌, ℕ, ◌+◌, ◌∙◌, ap, [], ◌∷◌, arith}
+use Rattle.list_lemmas.proofs.Ranges.{map_of_range-more}
 use Rattle.trace_base.specs.Flat.{flat}
 use Rattle.trace_base.specs.Timeline.{busiest, pixel_start}
-use Rattle.event_model.proofs.Lists.{map_of_range-more}
 use Rattle.event_model.proofs.line.line_of.Goals as goal
 
 pub loop-i-preserved : goal.loop-i-preserved

@@ -1,10 +1,10 @@
 use Rattle.std.proofs.Common.{◌≡◌, ℕ, Bool, cond, count_by, ◌∙◌, ap, arith, length}
 use Rattle.std.specs.List.{range_with_len}
+use Rattle.list_lemmas.proofs.Ranges.{count_by-range-more}
 use Rattle.trace_base.specs.declared.stream.Event.TheVariants.{Enter}
 use Rattle.trace_base.specs.Paths.{makes, calls_making}
 use Rattle.trace_base.specs.Stream.{stack_after}
 use Rattle.event_model.specs.Part.{has}
-use Rattle.event_model.proofs.Lists.{count_by-range-more}
 use Rattle.event_model.proofs.Times.{stack-read, calls_making-step}
 use Rattle.event_model.proofs.pass.calls_into.Goals as goal
 

@@ -1,11 +1,12 @@
 use Rattle.std.proofs.Common.{◌∷◌, [], lit≤, refl}
+use Rattle.list_lemmas.proofs.All.{All-from_Each}
 use Rattle.node_key.specs.Examples.{half, track_of_half}
 use Rattle.node_key.specs.Stakes.{stake}
 use Rattle.store_laws.specs.Store.{key_in}
 use Rattle.hall_core.specs.Examples.{four_nodes, good_world, other, rooms_with}
 use Rattle.hall_core.specs.World.{HasSeenNothing, all_stakes}
 use Rattle.hall_core.proofs.GoodWorlds.{seen_nothing}
-use Rattle.hall_core.proofs.SampleRooms.{All-from_Each, IsCounted-rooms_with, kid_places-rooms_with}
+use Rattle.hall_core.proofs.SampleRooms.{IsCounted-rooms_with, kid_places-rooms_with}
 use Rattle.hall_core.proofs.SampleRooms.{node_in-rooms_with}
 use Rattle.hall_core.proofs.SampleWorlds.{four_canonic, half_stands, key_in-rooms_with, other_stands}
 use Rattle.hall_core.proofs.SampleWorlds.{track_stands}

@@ -1,5 +1,6 @@
 use Rattle.std.proofs.Common.{◌∷◌, [], arith, lit<, lit≤, refl, subst, sym}
 use Rattle.std.proofs.lemmas.List.{length-map}
+use Rattle.list_lemmas.proofs.All.{All-from_Each}
 use Rattle.node_key.specs.Examples.{half, tenth, tenth_key}
 use Rattle.node_key.specs.Stakes.{HasStakes, stake}
 use Rattle.node_key.specs.declared.stake.Stake.{Stake}
@@ -8,7 +9,7 @@ use Rattle.hall_core.specs.Examples.{counted_node, rooms_with, seat_with, three_
 use Rattle.hall_core.specs.World.{HasSeenNothing, all_stakes}
 use Rattle.hall_core.specs.declared.world.SeatView.{SeatView}
 use Rattle.hall_core.proofs.GoodWorlds.{seen_nothing}
-use Rattle.hall_core.proofs.SampleRooms.{All-from_Each, IsCounted-rooms_with}
+use Rattle.hall_core.proofs.SampleRooms.{IsCounted-rooms_with}
 use Rattle.hall_core.proofs.SampleWorlds.{f_canonic, half_keyed, key_in-rooms_with, seat_is, tenth_keyed}
 use Rattle.hall_core.proofs.SampleWorlds.{tenth_stands}
 use Rattle.hall_core.proofs.StakeLists.{length-HasStakes}

@@ -1,4 +1,5 @@
-use Rattle.hall_core.proofs.KeptStores.{dropped, interned, moved}
+use Rattle.store_laws.proofs.StoreExchanged.{store_exchanged}
+use Rattle.hall_core.proofs.KeptStores.{dropped, interned}
 use Rattle.hall_core.proofs.laws.stores_are_kept.Goals as goal
 
 pub returns-clause-interning : goal.returns-clause-interning
@@ -8,4 +9,4 @@ pub returns-clause-dropping : goal.returns-clause-dropping
 returns-clause-dropping c = dropped
 
 pub returns-clause-moving : goal.returns-clause-moving
-returns-clause-moving c = moved
+returns-clause-moving c = store_exchanged

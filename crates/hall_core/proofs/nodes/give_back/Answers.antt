@@ -1,9 +1,9 @@
 use Rattle.std.proofs.Common.{◌≡◌, Contains, subst, ◌∙◌}
+use Rattle.list_lemmas.proofs.Positions.{read_is}
 use Rattle.node_key.specs.declared.stake.Stake.{Stake as Staked}
 use Rattle.hall_core.specs.declared.world.SeatView.{SeatView}
 use Rattle.hall_core.specs.declared.world.World.{World}
 use Rattle.hall_core.proofs.GoodWorlds.{good-one, good-stands}
-use Rattle.hall_core.proofs.PutBack.{read-is}
 use Rattle.hall_core.proofs.StoreSteps.{drop-step, lent-acts, put-back}
 use Rattle.hall_core.proofs.nodes.give_back.Goals as goal
 
@@ -25,7 +25,7 @@ pub give_back_in-answer-requires-clause-there : goal.give_back_in-answer-require
 give_back_in-answer-requires-clause-there c =
     let (seat, acts, may) = c.requires.allowed in
     subst (λ (s : SeatView). (x : Staked) × Contains s.stakes x × (x.number ≡ c.args.n))
-    (read-is c.args.w.now.seats c.into_vec-seats.result.items c.args.actor seat c.index_mut.result.now
+    (read_is c.args.w.now.seats c.into_vec-seats.result.items c.args.actor seat c.index_mut.result.now
     acts.there (c.into_vec-seats.ensures ∙ c.replace.ensures.value) c.index_mut.ensures.value)
     may
 

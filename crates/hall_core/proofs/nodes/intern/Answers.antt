@@ -1,11 +1,11 @@
 use Rattle.std.proofs.Common.{List, subst, ◌∙◌}
+use Rattle.list_lemmas.proofs.Positions.{read_is}
 use Rattle.node_key.specs.Tree.{Tree}
 use Rattle.node_key.specs.declared.stake.Stake.{Stake as Staked}
 use Rattle.hall_core.specs.OneTree.{IsStakedTree}
 use Rattle.hall_core.specs.declared.world.SeatView.{SeatView}
 use Rattle.hall_core.specs.declared.world.World.{World}
 use Rattle.hall_core.proofs.GoodWorlds.{good-one}
-use Rattle.hall_core.proofs.PutBack.{read-is}
 use Rattle.hall_core.proofs.StoreSteps.{key-step, lent-acts, put-back}
 use Rattle.hall_core.proofs.nodes.intern.Goals as goal
 
@@ -20,7 +20,7 @@ pub intern_in-answer-requires-clause-staked : goal.intern_in-answer-requires-cla
 intern_in-answer-requires-clause-staked c =
     let (seat, acts, may) = c.requires.allowed in
     subst (λ (s : SeatView). (t : Tree) × (kids : List Staked) × IsStakedTree s.stakes c.args.key t kids)
-    (read-is c.args.w.now.seats c.into_vec-seats.result.items c.args.actor seat c.index_mut.result.now
+    (read_is c.args.w.now.seats c.into_vec-seats.result.items c.args.actor seat c.index_mut.result.now
     acts.there (c.into_vec-seats.ensures ∙ c.replace.ensures.value) c.index_mut.ensures.value)
     may
 

@@ -1,8 +1,8 @@
 use Rattle.std.proofs.Common.{◌∙◌}
+use Rattle.list_lemmas.proofs.Positions.{changed_at}
 use Rattle.node_key.specs.Rooms.{room}
 use Rattle.shard_core.specs.Interning.{Interns}
 use Rattle.shard_core.specs.Room.{Room}
-use Rattle.hall_core.proofs.RoomAnswers.{changed_at}
 use Rattle.hall_core.proofs.rooms.enter.Goals as goal
 
 pub returns : goal.returns

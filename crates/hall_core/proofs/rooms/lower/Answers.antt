@@ -1,8 +1,8 @@
 use Rattle.std.proofs.Common.{◌∙◌, ◌%◌, refl}
+use Rattle.list_lemmas.proofs.Positions.{changed_at}
 use Rattle.node_key.specs.declared.limits.TheConstants.{STORE_ROOMS}
 use Rattle.shard_core.specs.Interning.{Drops}
 use Rattle.shard_core.specs.Room.{Room}
-use Rattle.hall_core.proofs.RoomAnswers.{changed_at}
 use Rattle.hall_core.proofs.rooms.lower.Goals as goal
 
 pub returns : goal.returns

@@ -1,6 +1,7 @@
 use Rattle.std.proofs.Common.{◌∙◌, ◌+◌, arith, sym, subst, get_or}
 use Rattle.std.proofs.lemmas.Bool.{false≢true}
-use Rattle.hall_core.proofs.RunsMore.{RunsSoFar, read-parts, runs-more}
+use Rattle.list_lemmas.proofs.Positions.{read_parts}
+use Rattle.hall_core.proofs.RunsMore.{RunsSoFar, runs-more}
 use Rattle.hall_core.proofs.run.run_events.Goals as goal
 
 pub returns-then-not-allows-clause-run : goal.returns-then-not-allows-clause-run
@@ -8,7 +9,7 @@ returns-then-not-allows-clause-run c = (
   (c.loop-i-test.true, c.loop-i.answers.items, c.loop-i.invariant.0.done),
   (get_or c.args.list.now c.loop-i.i c.index-list-i.result).0,
   (get_or c.args.list.now c.loop-i.i c.index-list-i-in-loop-i.result).1,
-  read-parts c.args.list.now c.loop-i.i c.index-list-i.result c.index-list-i-in-loop-i.result
+  read_parts c.args.list.now c.loop-i.i c.index-list-i.result c.index-list-i-in-loop-i.result
       c.loop-i-test.true,
   λ may. false≢true (sym c.if-not-allows.true ∙ c.allows.ensures.1 may),
 )
@@ -20,7 +21,7 @@ loop-i-preserved c = (
       (runs-more c.args.list.now c.loop-i.i c.loop-i.answers.items c.args.w.now c.loop-i.w c.step.new.w
       (get_or c.args.list.now c.loop-i.i c.index-list-i.result).0
       (get_or c.args.list.now c.loop-i.i c.index-list-i-in-loop-i.result).1 c.step.result c.loop-i.invariant.0
-      (read-parts c.args.list.now c.loop-i.i c.index-list-i.result c.index-list-i-in-loop-i.result
+      (read_parts c.args.list.now c.loop-i.i c.index-list-i.result c.index-list-i-in-loop-i.result
       c.loop-i-test.true) (c.allows.ensures.0 c.if-not-allows.false) c.in_default-step.not-Memory
       c.step.ensures.step c.step.ensures.good),
   omega arith,

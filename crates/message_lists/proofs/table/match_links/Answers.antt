@@ -1,7 +1,7 @@
 use Rattle.std.proofs.Common.{◌≡◌, ℕ, ◌-◌, ◌*◌, ap, ◌∙◌, arith, rules, length}
+use Rattle.list_lemmas.proofs.Sorting.{stable_sort_by_key_is}
 use Rattle.trace_base.specs.Messages.{table_of, in_table_order, messages_started}
 use Rattle.trace_base.specs.declared.messages.Message.{Message}
-use Rattle.trace_base.proofs.Order.{stable_sort_by_key_is}
 use Rattle.message_lists.proofs.TableOrder.{triple_cmp, triple_cmp-total}
 use Rattle.message_lists.proofs.table.match_links.Goals as goal
 

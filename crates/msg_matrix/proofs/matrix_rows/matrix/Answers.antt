@@ -1,11 +1,11 @@
 use Rattle.std.proofs.Common.{◌≡◌, ◌+◌, List, [], ◌∷◌, ◌++◌, take, get_or, map, Bool, cond, ap, subst, sym}
 use Rattle.std.proofs.Common.{◌∙◌, arith, append-nil}
 use Rattle.std.proofs.lemmas.List.{take_all}
+use Rattle.list_lemmas.proofs.InOrder.{values_by_key}
 use Rattle.trace_base.proofs.Pairs.{pair_cmp-total}
 use Rattle.trace_base.specs.Matrix.{matrix_of, pair_cmp, pair_row, pairs_of, sent_within}
 use Rattle.trace_base.specs.declared.messages.Message.{Message}
 use Rattle.msg_matrix.specs.Pairs.{Pairs, empty_row}
-use Rattle.msg_matrix.proofs.Keys.{values_by_key}
 use Rattle.msg_matrix.proofs.Sums.{HasRows, HasRows-as, HasRows-more, HasRows-none, sent_within-more}
 use Rattle.msg_matrix.proofs.matrix_rows.matrix.Goals as goal
 use Rattle.msg_matrix.proofs.matrix_rows.matrix.Goals.{then-is_sent_within+in_ok-add, else-is_sent_within}

@@ -1,10 +1,10 @@
 use Rattle.std.proofs.Common.{◌≡◌, ◌+◌, cond, ap, subst, sym, ◌∙◌, arith, rules}
 use Rattle.std.proofs.lemmas.Grind.{common_steps}
+use Rattle.list_lemmas.proofs.InOrder.{keys_of-insert_entry}
 use Rattle.trace_base.specs.declared.matrix.MatrixRow.{MatrixRow}
 use Rattle.std.specs.Map.{keys_of}
 use Rattle.trace_base.specs.Matrix.{is_of, pair_cmp, pair_of}
 use Rattle.msg_matrix.specs.Pairs.{IsOfAtMost, row_at, row_with}
-use Rattle.msg_matrix.proofs.Keys.{keys_of-insert_entry}
 use Rattle.msg_matrix.proofs.Sums.{IsOfAtMost-cond}
 use Rattle.msg_matrix.proofs.pairs.add.Goals as goal
 

@@ -1,5 +1,5 @@
 use Rattle.std.proofs.Common.{sym, arith}
-use Rattle.decimal_digits.proofs.HeldDigits.{ten_pow_pos}
+use Rattle.list_lemmas.proofs.Digits.{ten_pow_pos}
 use Rattle.paje_lex.proofs.Scaling.{head_below_pow}
 use Rattle.paje_lex.proofs.powers.lowered.Goals as goal
 

@@ -1,7 +1,7 @@
 use Rattle.std.proofs.Common.{◌+◌, ◌-◌, ◌^◌, inl, arith, ◌∙◌, ap, sym, Ok}
 use Rattle.std.specs.Str.Parse.{digits_value}
+use Rattle.list_lemmas.proofs.Digits.{ten_pow_pos}
 use Rattle.paje_lex.proofs.Scaling.{lowered_limit, scaled_up, raised_big, turned_powers}
-use Rattle.decimal_digits.proofs.HeldDigits.{ten_pow_pos}
 use Rattle.paje_lex.proofs.powers.scaled.Goals as goal
 
 pub returns-then-more-up : goal.returns-then-more-up

@@ -1,7 +1,8 @@
 use Rattle.std.proofs.Common.{ℕ, ◌+◌, ◌*◌, ◌-◌, ◌^◌, ◌<◌, ◌≤◌, length, sym, ◌∙◌, arith, get_or}
 use Rattle.std.specs.Char.{is_ascii_digit}
 use Rattle.std.proofs.lemmas.List.Sums.{prefix_len_is}
-use Rattle.paje_lex.proofs.ShortDates.{digit_behind, digits_more, room_behind, below_room, small_digit}
+use Rattle.list_lemmas.proofs.Digits.{small_digit}
+use Rattle.paje_lex.proofs.ShortDates.{digit_behind, digits_more, room_behind, below_room}
 use Rattle.paje_lex.proofs.short_dates.with_digits.Goals as goal
 
 pub returns-then-not-is_ascii_digit-clause-len : goal.returns-then-not-is_ascii_digit-clause-len

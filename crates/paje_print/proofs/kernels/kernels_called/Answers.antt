@@ -1,8 +1,8 @@
 use Rattle.std.proofs.Common.{ℕ, List, ap, length, map, nat_eq, slice_index, ◌∙◌}
 use Rattle.std.specs.List.{flat_map, range_with_len}
+use Rattle.list_lemmas.proofs.Ranges.{flat_range_more}
 use Rattle.paje_lines.specs.Found.{distinct_by}
 use Rattle.paje_print.specs.Generated.{bundles_on}
-use Rattle.paje_print.proofs.RangesLeft.{flat_range_more}
 use Rattle.paje_print.proofs.kernels.kernels_called.Goals as goal
 
 pub loop-track-preserved : goal.loop-track-preserved

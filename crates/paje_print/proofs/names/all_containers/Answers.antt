@@ -1,7 +1,7 @@
 use Rattle.std.proofs.Common.{◌∙◌, arith, ap, codes, ◌++◌}
 use Rattle.std.specs.Prelude.{decimal}
+use Rattle.list_lemmas.proofs.Ranges.{left_next}
 use Rattle.paje_print.specs.Generated.{generated_container}
-use Rattle.paje_print.proofs.RangesLeft.{left_next}
 use Rattle.paje_print.proofs.names.all_containers.Goals as goal
 
 pub loop-rank-preserved : goal.loop-rank-preserved

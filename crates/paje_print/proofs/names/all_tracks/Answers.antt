@@ -1,6 +1,6 @@
 use Rattle.std.proofs.Common.{arith, refl}
+use Rattle.list_lemmas.proofs.Ranges.{left_next}
 use Rattle.paje_print.specs.Generated.{generated_track}
-use Rattle.paje_print.proofs.RangesLeft.{left_next}
 use Rattle.paje_print.proofs.names.all_tracks.Goals as goal
 
 pub loop-track-preserved : goal.loop-track-preserved

@@ -1,6 +1,6 @@
 use Rattle.std.proofs.Common.{length}
+use Rattle.list_lemmas.proofs.Ranges.{left_next}
 use Rattle.paje_print.specs.Generated.{generated_stream}
-use Rattle.paje_print.proofs.RangesLeft.{left_next}
 use Rattle.paje_print.proofs.StreamSteps.{stream_is}
 use Rattle.paje_print.proofs.streams.all_streams.Goals as goal
 

@@ -1,11 +1,12 @@
 use Rattle.std.proofs.Common.{refl, ◌+◌, ◌∷◌, ◌++◌, List, ◌∙◌, drop, get_or, subst}
 use Rattle.node_key.specs.declared.stake.Stake.{Stake}
+use Rattle.node_key.proofs.StakeLaws.{first_taken}
 use Rattle.node_store.specs.Given.{ever}
 use Rattle.node_store.specs.Kept.{KeepsFor}
 use Rattle.plain_hall.specs.Rooted.{root_stake}
 use Rattle.plain_hall.specs.Spots.{stakes_at}
 use Rattle.plain_hall.specs.declared.spots.TrackSpot.{TrackSpot}
-use Rattle.plain_hall.proofs.Exchanging.{next_root, without_first}
+use Rattle.plain_hall.proofs.Exchanging.{next_root}
 use Rattle.plain_hall.proofs.Keeping.{never_falls, nexts_same}
 use Rattle.plain_hall.proofs.dropping.drop_roots.Goals as goal
 
@@ -21,7 +22,7 @@ drop_other-requires c =
     let kept : KeepsFor c.loop-spot.nodes (x ∷ others) =
     subst (λ (xs : List Stake). KeepsFor c.loop-spot.nodes (xs ++ rest)) next
     (c.loop-spot.invariant.roots rest c.requires.roots.1) in
-    (x ∷ others, others, x.tree, kept, without_first x others)
+    (x ∷ others, others, x.tree, kept, first_taken x others)
 
 pub loop-spot-preserved : goal.loop-spot-preserved
 loop-spot-preserved c =
@@ -37,7 +38,7 @@ loop-spot-preserved c =
           let others = stakes_at nodes (drop (i + 1) c.args.spots.now) ++ rest in
           c.drop_other.ensures.kept (x ∷ others) others x.tree
           (subst (λ (xs : List Stake). KeepsFor c.loop-spot.nodes (xs ++ rest)) next
-          (c.loop-spot.invariant.roots rest kept)) (without_first x others);
+          (c.loop-spot.invariant.roots rest kept)) (first_taken x others);
       next = never_falls nodes.rooms c.loop-spot.nodes.rooms c.drop_other.new.self.rooms
           c.loop-spot.invariant.next c.drop_other.ensures.next;
     }

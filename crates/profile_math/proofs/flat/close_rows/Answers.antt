@@ -1,8 +1,9 @@
 use Rattle.std.proofs.Common.{◌≡◌, ◌∙◌, All, List, length, subst, sym, ap, rules}
 use Rattle.std.specs.Result.{OnOk}
+use Rattle.list_lemmas.proofs.Options.{either_way}
 use Rattle.trace_base.specs.declared.profile.Row.{Row}
 use Rattle.profile_math.specs.Sum.{RowFits, RisesByFunction}
-use Rattle.profile_math.proofs.RowClosings.{found, missing, rises_with, either_way}
+use Rattle.profile_math.proofs.RowClosings.{found, missing, rises_with}
 use Rattle.profile_math.proofs.flat.close_rows.Goals as goal
 
 abbrev no_row : Row

@@ -1,7 +1,7 @@
 -- A loading trace hasn't ended, and a place is promised for its end.
 use Rattle.std.proofs.Common.{◌≡◌, ℕ, true, [], ◌∷◌, ◌++◌, Some, sym, ap, ◌∙◌, subst}
 use Rattle.std.proofs.lemmas.Bool.{false≢true}
-use Rattle.node_key.specs.History.{Dropped}
+use Rattle.hall_history.specs.History.{Dropped}
 use Rattle.registry_core.specs.Loading.{IsLoadingTrace}
 use Rattle.registry_core.specs.Registry.{IsSoundRegistry, RegistryValue, kept_trace}
 use Rattle.registry_core.specs.Standing.{AreTrees, StandsFor}

@@ -1,5 +1,5 @@
 use Rattle.std.proofs.Common.{◌++◌, ◌∷◌, [], arith, sym, subst}
-use Rattle.node_key.specs.History.{Asked, Opened}
+use Rattle.hall_history.specs.History.{Asked, Opened}
 use Rattle.registry_core.proofs.SoundLoads.{sound-entry, sound-opened}
 use Rattle.registry_core.proofs.StandsAsked.{stands-asked}
 use Rattle.registry_core.proofs.StandsOpened.{stands-opened}

@@ -1,6 +1,6 @@
 -- A question for traces adds users to them, which the history doesn't tell.
 use Rattle.std.proofs.Common.{[], ◌∷◌, ◌++◌, subst, sym, refl}
-use Rattle.node_key.specs.History.{Asked}
+use Rattle.hall_history.specs.History.{Asked}
 use Rattle.registry_core.specs.Asking.{times_asked, with_users}
 use Rattle.registry_core.specs.Registry.{RegistryValue, after_entry}
 use Rattle.registry_core.specs.Standing.{AreTrees, StandsFor}

@@ -1,6 +1,6 @@
 -- A trace that is closed was open, and each refusal but one is a question.
 use Rattle.std.proofs.Common.{◌-◌, [], ◌∷◌, ◌++◌, sym, subst, arith}
-use Rattle.node_key.specs.History.{Asked, Closed}
+use Rattle.hall_history.specs.History.{Asked, Closed}
 use Rattle.registry_core.specs.Registry.{FitsPlaces, RegistryValue}
 use Rattle.registry_core.specs.Standing.{AreTrees, StandsFor}
 use Rattle.registry_core.specs.Trace.{promise_of}

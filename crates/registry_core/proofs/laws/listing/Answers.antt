@@ -1,6 +1,6 @@
 -- A listing is a question.
 use Rattle.std.proofs.Common.{[], ◌∷◌, ◌++◌, subst, sym}
-use Rattle.node_key.specs.History.{Asked}
+use Rattle.hall_history.specs.History.{Asked}
 use Rattle.registry_core.specs.Registry.{RegistryValue}
 use Rattle.registry_core.specs.Standing.{AreTrees, StandsFor}
 use Rattle.registry_core.proofs.SoundLoads.{sound-entry}

@@ -2,7 +2,7 @@
 use Rattle.std.proofs.Common.{arith, ◌∙◌, sym}
 use Rattle.std.proofs.lemmas.Bool.{not-false}
 use Rattle.std.proofs.lemmas.Slice.Eq.{bytes_eq-Decides}
-use Rattle.registry_core.proofs.SameLists.{take_same_more}
+use Rattle.list_lemmas.proofs.Fronts.{take_same_more}
 use Rattle.registry_core.proofs.same_names.are_same.Goals as goal
 
 pub loop-i-preserved : goal.loop-i-preserved

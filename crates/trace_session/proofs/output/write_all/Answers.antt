@@ -1,6 +1,6 @@
 use Rattle.std.proofs.Common.{◌≡◌, ◌-◌, ◌++◌, ℕ, List, length, take, drop, sym, ap, ◌∙◌, arith, append_assoc}
 use Rattle.std.proofs.lemmas.List.{take-append-drop, take_rest}
-use Rattle.trace_session.proofs.Telling.{told_then}
+use Rattle.trace_base.proofs.Telling.{told_then}
 use Rattle.trace_session.proofs.output.write_all.Goals as goal
 
 pub loop-rest-preserved : goal.loop-rest-preserved

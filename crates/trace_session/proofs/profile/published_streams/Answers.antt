@@ -1,7 +1,7 @@
 use Rattle.std.proofs.Common.{◌≡◌, ◌+◌, IfSome, List, Option, Some, None, Vec, Global, take, refl, sym, ap, ◌∙◌, subst}
 use Rattle.trace_base.specs.declared.stream.TrackStream.{TrackStream}
-use Rattle.node_key.specs.History.{FitsTrack, stream_of}
-use Rattle.node_key.specs.Seat.{Seat}
+use Rattle.hall_history.specs.History.{FitsTrack, stream_of}
+use Rattle.hall_history.specs.Seat.{Seat}
 use Rattle.hall_trait.specs.Pin.{first_id}
 use Rattle.builders.proofs.Spending.{nexts_same, nexts_then}
 use Rattle.trace_session.proofs.Streams.{Collected, collected_none, collected_some, collected_start}

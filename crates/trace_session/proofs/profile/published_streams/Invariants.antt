@@ -1,5 +1,5 @@
 use Rattle.std.proofs.Common.{◌≡◌, take}
-use Rattle.node_key.specs.History.{stream_of}
+use Rattle.hall_history.specs.History.{stream_of}
 use Rattle.hall_trait.specs.Answers.{NextsRise}
 use Rattle.hall_trait.specs.Pin.{first_id}
 use Rattle.trace_session.proofs.Streams.{Collected}

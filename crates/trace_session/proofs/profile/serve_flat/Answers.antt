@@ -1,8 +1,8 @@
 use Rattle.std.proofs.Common.{◌≡◌, ◌⊎◌, ℕ, take, ap, ◌∙◌, subst}
-use Rattle.trace_base.specs.declared.asks.AskIds.TheVariants.{One}
+use Rattle.hall_history.specs.declared.asks.AskIds.TheVariants.{One}
 use Rattle.hall_trait.specs.Answers.{Asks, AskRecords}
 use Rattle.hall_trait.specs.Pin.{pin_view, first_id}
-use Rattle.node_key.specs.Seat.{Seat, Removes, MakesNoEntry}
+use Rattle.hall_history.specs.Seat.{Seat, Removes, MakesNoEntry}
 use Rattle.hall_trait.specs.declared.answers.AskAnswer.{AskAnswer}
 use Rattle.session_proto.specs.declared.reply.No.TheVariants as no
 use Rattle.session_proto.specs.declared.reply.Reply.TheVariants as reply

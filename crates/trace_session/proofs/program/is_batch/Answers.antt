@@ -2,7 +2,7 @@ use Rattle.std.proofs.Common.{◌≡◌, ℕ, Bool, List, arith, sym, ap, ◌∙
 use Rattle.std.proofs.lemmas.Slice.Eq.{bytes_eq-Decides}
 use Rattle.std.specs.Str.{bytes_eq}
 use Rattle.std.specs.String.{string_bytes}
-use Rattle.trace_session.proofs.Words.{list_of_one, one_text}
+use Rattle.list_lemmas.proofs.Fronts.{list_of_one, one_text}
 use Rattle.trace_session.proofs.program.is_batch.Goals as goal
 
 pub returns-in-len1 : goal.returns-in-len1

@@ -1,10 +1,11 @@
 use Rattle.std.proofs.Common.{◌≡◌, Option, List, ℕ, true, None, Some, subst}
-use Rattle.node_key.specs.Seat.{Seat}
-use Rattle.node_key.specs.declared.left.Left.{Left}
+use Rattle.hall_history.specs.Seat.{Seat}
+use Rattle.hall_history.specs.declared.left.Left.{Left}
 use Rattle.plain_hall.specs.PlainHall.{seat_of}
 use Rattle.shard_core.specs.Room.{Room}
-use Rattle.trace_session.specs.Run.{TellsLeft, new_seat}
+use Rattle.trace_session.specs.Run.{SinkState, TellsLeft, new_seat}
 use Rattle.trace_session.specs.Session.{IsSession}
+use Rattle.trace_session.proofs.Causes.{ends_by_cause}
 use Rattle.trace_session.proofs.program.run.Goals as goal
 
 pub returns-clause-batch : goal.returns-clause-batch
@@ -36,6 +37,12 @@ returns-clause-batch g c = λ is begun.
       held = middle;
     }) end)
     c.in-Ok.ensures.rooms of_seat in
-    let told = subst (λ (left : Left). TellsLeft end left middle (g.O.Sink.held c.tell_left.new.output)
-    c.tell_left.result) c.left.ensures c.tell_left.ensures.told in
-    (end, seat_of ended, ended.nodes.rooms, middle, session, told)
+    let ended_at : SinkState =
+    record { held = middle; faults = g.O.Faults.faults c.session-end.new.output } in
+    let told = subst (λ (left : Left). TellsLeft end left ended_at
+    (record {
+      held = g.O.Sink.held c.tell_left.new.output;
+      faults = g.O.Faults.faults c.tell_left.new.output;
+    }) c.tell_left.result) c.left.ensures c.tell_left.ensures.told in
+    let cause = ends_by_cause end _ _ _ _ c.session-end.ensures.read_fault c.session-end.ensures.write_fault in
+    (end, seat_of ended, ended.nodes.rooms, ended_at, session, cause, told)

@@ -1,8 +1,8 @@
 use Rattle.std.proofs.Common.{◌∷◌}
 use Rattle.node_store.proofs.Dropping.{next_then}
-use Rattle.node_store.proofs.Exchanging.{first_taken}
 use Rattle.node_store.proofs.KidLoops.{other_from_stake, same_next}
 use Rattle.node_key.specs.Stakes.{stake}
+use Rattle.node_key.proofs.StakeLaws.{first_taken}
 use Rattle.node_store.proofs.store.NodeStore.release.Goals as goal
 
 pub drop_other-requires : goal.drop_other-requires

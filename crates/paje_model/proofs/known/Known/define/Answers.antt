@@ -1,5 +1,6 @@
 use Rattle.std.proofs.Common.{◌≡◌, List, [], ◌∷◌, Option, sym, subst, ◌∙◌}
 use Rattle.paje_defs.specs.declared.role.Role.TheVariants as roles
+use Rattle.paje_defs.proofs.FirstOf.{first_one}
 use Rattle.paje_lines.specs.declared.effect.Effect.TheVariants.{Declared}
 use Rattle.paje_lines.specs.declared.model_fault.ModelFault.{ModelFault}
 use Rattle.paje_lines.specs.EventLine.{EventLine, line_of}
@@ -7,7 +8,7 @@ use Rattle.paje_lines.specs.Reasons.{define_reason, new_type_reason, type_reason
 use Rattle.paje_lines.specs.Types.{is_container_type}
 use Rattle.paje_model.specs.Steps.{Step, Takes}
 use Rattle.paje_model.proofs.NewTypes.{plain-reason}
-use Rattle.paje_model.proofs.StepReasons.{last_one, passed, refused-by, told_first}
+use Rattle.paje_model.proofs.StepReasons.{passed, refused-by, told_first}
 use Rattle.paje_model.proofs.known.Known.define.Goals as goal
 
 -- a step for this reason
@@ -30,7 +31,7 @@ returns c before known =
     let line = line_of c.args.n c.args.fields.now in
     let is : define_reason before line ≡ new_type_reason before line
     = passed (by_kind before line) (new_type_reason before line ∷ []) (new_type_reason before line)
-    (c.in_ok-container_type.ensures c.args.n before known).0 (last_one (new_type_reason before line)) in
+    (c.in_ok-container_type.ensures c.args.n before known).0 (first_one (new_type_reason before line)) in
     subst (λ reason. Takes (step_for before line reason) c.declare_type.new.self c.declare_type.result)
     (sym is)
     (c.declare_type.ensures before known (plain-reason before line line.event c.requires.event ∙ is))

@@ -1,13 +1,14 @@
 use Rattle.std.proofs.Common.{◌≡◌, List, [], ◌∷◌, Option, None, Some, sym, ap, subst, ◌∙◌}
 use Rattle.paje_defs.specs.declared.role.Role.TheVariants as roles
 use Rattle.paje_defs.specs.Refusals.{first_of}
+use Rattle.paje_defs.proofs.FirstOf.{first_one}
 use Rattle.paje_lines.specs.declared.effect.Effect.TheVariants.{Declared}
 use Rattle.paje_lines.specs.declared.model_fault.ModelFault.{ModelFault}
 use Rattle.paje_lines.specs.EventLine.{EventLine, line_of}
 use Rattle.paje_lines.specs.Reasons.{define_link_reason, new_type_reason, reason_of, type_reason}
 use Rattle.paje_lines.specs.Types.{is_container_type}
 use Rattle.paje_model.specs.Steps.{Step, Takes}
-use Rattle.paje_model.proofs.StepReasons.{last_one, passed, refused-by, told_first}
+use Rattle.paje_model.proofs.StepReasons.{passed, refused-by, told_first}
 use Rattle.paje_model.proofs.known.Known.define_link.Goals as goal
 
 -- a step for this reason
@@ -75,7 +76,7 @@ returns c before known =
     (c.in_ok-container_type.ensures c.args.n before known).0
     (c.in_ok-container_type-2.ensures c.args.n before known).0
     (passed (by_end before line) (new_type_reason before line ∷ []) (new_type_reason before line)
-    (c.in_ok-container_type-3.ensures c.args.n before known).0 (last_one (new_type_reason before line))) in
+    (c.in_ok-container_type-3.ensures c.args.n before known).0 (first_one (new_type_reason before line))) in
     subst (λ reason. Takes (step_for before line reason) c.declare_type.new.self c.declare_type.result)
     (sym is)
     (c.declare_type.ensures before known (ap (λ event. reason_of event before line) c.requires.event ∙ is))

@@ -3,6 +3,7 @@ use Rattle.std.proofs.Common.{subst, ◌∙◌}
 use Rattle.std.proofs.Common.{ap₂, find}
 use Rattle.std.specs.Option.{option_and_then}
 use Rattle.paje_defs.specs.declared.role.Role.TheVariants as roles
+use Rattle.paje_defs.proofs.FirstOf.{first_one}
 use Rattle.paje_lines.specs.declared.effect.Effect.TheVariants.{Declared, Dropped}
 use Rattle.paje_lines.specs.declared.model_fault.ModelFault.{ModelFault}
 use Rattle.paje_lines.specs.Effects.{effect, effect_of}
@@ -15,7 +16,7 @@ use Rattle.paje_model.specs.ValueTable.{values_at}
 use Rattle.std.specs.Prelude.{slice_set, ◌++◌}
 use Rattle.paje_model.specs.ValueTable.{values_kept}
 use Rattle.paje_model.proofs.NewValues.{kinds-there, known-unvalued, known-valued, value-alias, value-room}
-use Rattle.paje_model.proofs.StepReasons.{last_one, passed, refused-by, told_first}
+use Rattle.paje_model.proofs.StepReasons.{passed, refused-by, told_first}
 use Rattle.paje_model.proofs.known.Known.define_value.Goals as goal
 
 abbrev step_of : List EventLine → EventLine → Step
@@ -39,7 +40,7 @@ behind : (before : List EventLine) (line : EventLine) (kind : Option ℕ) (first
     → option_and_then (new_value_reason before line) kind ≡ first → value_reason before line ≡ first
 behind before line kind first none named is = passed (by_type before line) (by_value before line
     ∷ []) first none
-    (last_one (by_value before line) ∙ (ap (option_and_then (new_value_reason before line)) named ∙ is))
+    (first_one (by_value before line) ∙ (ap (option_and_then (new_value_reason before line)) named ∙ is))
 
 pub returns-in_err-kind : goal.returns-in_err-kind
 returns-in_err-kind c before known =

@@ -1,9 +1,10 @@
 use Rattle.std.proofs.Common.{◌∙◌, ap, refl}
 use Rattle.std.specs.Option.{option_and_then, option_map_or}
 use Rattle.std.specs.Prelude.{slice_get}
+use Rattle.list_lemmas.proofs.Options.{is_none_by}
 use Rattle.paje_model.specs.TrackTable.{track_of}
 use Rattle.paje_model.specs.declared.open_track.OpenTrack.{OpenTrack}
-use Rattle.paje_model.proofs.StateReads.{none_by, reads}
+use Rattle.paje_model.proofs.StateReads.{reads}
 use Rattle.paje_model.proofs.known.Known.state_met.Goals as goal
 
 pub returns : goal.returns
@@ -22,7 +23,7 @@ returns c before line known named at entered =
           ∙ ap (λ o. option_map_or (λ (t : OpenTrack). t.open_calls) o 0) c.found-track.ensures;
       states = refl;
       tracks = c.len.ensures;
-      is_new_track = none_by c.is_none.result c.args.place c.is_none.ensures;
+      is_new_track = is_none_by c.is_none.result c.args.place c.is_none.ensures;
       functions = c.len-2.ensures;
       is_new_function = c.is_new.ensures;
     })

@@ -2,7 +2,7 @@ use Rattle.std.proofs.Common.{◌≡◌, ◌-◌, ◌+◌, [], ◌∷◌, length
 use Rattle.std.proofs.Common.{length-append}
 use Rattle.std.specs.Prelude.{slice_get}
 use Rattle.std.proofs.lemmas.Option.{slice_get_read}
-use Rattle.node_key.specs.History.{Published}
+use Rattle.hall_history.specs.History.{Published}
 use Rattle.plain_hall.specs.KeptHistory.{history}
 use Rattle.plain_hall.specs.Spots.{IsTraceSpot}
 use Rattle.plain_hall.proofs.Finding.{spots_published}

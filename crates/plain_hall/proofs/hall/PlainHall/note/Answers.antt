@@ -4,7 +4,7 @@ use Rattle.plain_hall.proofs.Calls.{asked_passes}
 use Rattle.plain_hall.proofs.Found.{held_more}
 use Rattle.plain_hall.proofs.Steps.{makes}
 use Rattle.plain_hall.proofs.WholeAfter.{seen_more, whole_asked}
-use Rattle.node_key.specs.History.{Asked}
+use Rattle.hall_history.specs.History.{Asked}
 use Rattle.node_store.specs.Given.{ever}
 use Rattle.plain_hall.proofs.hall.PlainHall.note.Goals as goal
 

@@ -4,7 +4,7 @@ use Rattle.std.proofs.lemmas.List.{length-map}
 use Rattle.trace_base.specs.declared.names.TraceInfo.{TraceInfo}
 use Rattle.hall_trait.specs.Pass.{state_at, IsFresh}
 use Rattle.hall_trait.specs.declared.pass.LoadPass.{LoadPass}
-use Rattle.node_key.specs.History.{Opened, opened_ids}
+use Rattle.hall_history.specs.History.{Opened, opened_ids}
 use Rattle.node_store.specs.Given.{ever}
 use Rattle.plain_hall.specs.FoundHistory.{entries}
 use Rattle.plain_hall.specs.PlainHall.{seen_by}

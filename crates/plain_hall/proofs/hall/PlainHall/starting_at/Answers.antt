@@ -1,5 +1,5 @@
 use Rattle.std.proofs.Common.{◌≡◌, List, [], ap, ap₂, arith}
-use Rattle.node_key.specs.History.{Entry, opened_ids}
+use Rattle.hall_history.specs.History.{Entry, opened_ids}
 use Rattle.node_key.specs.declared.stake.Stake.{Stake}
 use Rattle.node_store.specs.Given.{ever}
 use Rattle.plain_hall.specs.PlainSeat.{plain_seat}

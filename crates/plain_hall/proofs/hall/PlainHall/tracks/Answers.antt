@@ -1,13 +1,15 @@
 use Rattle.std.proofs.Common.{◌≡◌, cond, None, Some, length, sym, ap, ap₂, ◌∙◌, arith}
 use Rattle.std.specs.Arc.{arc_value}
+use Rattle.list_lemmas.proofs.Options.{cond_given}
 use Rattle.trace_base.specs.declared.names.TraceInfo.{TraceInfo}
-use Rattle.node_key.specs.History.{info_of, is_open, tracks_of}
+use Rattle.hall_history.specs.History.{info_of, is_open, tracks_of}
+use Rattle.hall_history.proofs.HistoryFronts.{info_legal}
 use Rattle.node_store.specs.Given.{ever}
 use Rattle.plain_hall.specs.FoundHistory.{entries}
 use Rattle.plain_hall.specs.PlainHall.{seen_by}
 use Rattle.plain_hall.specs.Rooted.{tree_of_root}
 use Rattle.plain_hall.specs.declared.hall.PlainHall.{PlainHall}
-use Rattle.plain_hall.proofs.Found.{open_some, open_none, info_legal}
+use Rattle.plain_hall.proofs.Found.{open_none}
 use Rattle.plain_hall.proofs.Steps.{told_tracks}
 use Rattle.plain_hall.proofs.Told.{info_of-told, is_open-told, orderly_untold}
 use Rattle.plain_hall.proofs.hall.PlainHall.tracks.Goals as goal
@@ -28,7 +30,7 @@ told_so hall id =
 pub overflow_cast-result : goal.overflow_cast-result
 overflow_cast-result c =
     let was = c.args.self.now in
-    let told = open_some (is_open (seen_by was) c.args.id) _ (arc_value c.in-Some.info.now)
+    let told = cond_given (is_open (seen_by was) c.args.id) _ (arc_value c.in-Some.info.now)
     (sym (told_so was c.args.id) ∙ sym c.in-Some.ensures) in
     omega (
       arith,
@@ -46,7 +48,7 @@ returns-in-None c =
 pub returns-in-Some : goal.returns-in-Some
 returns-in-Some c =
     let was = c.args.self.now in
-    let told = open_some (is_open (seen_by was) c.args.id) _ (arc_value c.in-Some.info.now)
+    let told = cond_given (is_open (seen_by was) c.args.id) _ (arc_value c.in-Some.info.now)
     (sym (told_so was c.args.id) ∙ sym c.in-Some.ensures) in
     let many : c.len.result ≡ tracks_of (seen_by was) c.args.id =
     c.len.ensures ∙ ap (λ (i : TraceInfo). length i.names.tracks) c.deref.ensures ∙ sym

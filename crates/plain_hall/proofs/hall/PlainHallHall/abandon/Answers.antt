@@ -1,6 +1,7 @@
 use Rattle.std.proofs.Common.{◌≡◌, ◌+◌, ◌-◌, ◌++◌, ◌∷◌, [], List, length, map, arith, ap, refl, subst, sym, ◌∙◌}
 use Rattle.std.proofs.lemmas.List.{length-map}
-use Rattle.node_key.specs.History.{Dropped, EntryOf}
+use Rattle.hall_history.specs.History.{Dropped, EntryOf}
+use Rattle.hall_history.proofs.HistoryFronts.{loading_open}
 use Rattle.node_store.specs.Given.{Given, ever, stakes_of}
 use Rattle.node_store.specs.Kept.{KeepsFor}
 use Rattle.plain_hall.specs.FoundHistory.{entries}
@@ -9,7 +10,7 @@ use Rattle.plain_hall.specs.Rooted.{root_stake, root_stakes, told_by, tree_of_ro
 use Rattle.plain_hall.specs.declared.root.Root.{Root}
 use Rattle.plain_hall.proofs.Calls.{pass_facts, left_is_rest, load_entry}
 use Rattle.plain_hall.proofs.Found.{held_more}
-use Rattle.plain_hall.proofs.Legal.{open_within, loading_open}
+use Rattle.plain_hall.proofs.Legal.{open_within}
 use Rattle.plain_hall.proofs.Passes.{promise_of, dropped_ends}
 use Rattle.plain_hall.proofs.Steps.{owes, lives}
 use Rattle.plain_hall.proofs.Told.{opened_ids-told}

@@ -1,6 +1,6 @@
 use Rattle.std.proofs.Common.{List, ap, sym, subst}
 use Rattle.std.specs.Option.{ForSome}
-use Rattle.node_key.specs.History.{EntryOf}
+use Rattle.hall_history.specs.History.{EntryOf}
 use Rattle.node_store.specs.Kept.{NodesKept}
 use Rattle.plain_hall.specs.PlainSeat.{IsHeld}
 use Rattle.plain_hall.specs.Whole.{IsSoundHall}

@@ -1,14 +1,15 @@
 use Rattle.std.proofs.Common.{◌≡◌, true, ap, sym, ◌∙◌, subst}
 use Rattle.std.proofs.lemmas.List.{length-map}
+use Rattle.std.proofs.lemmas.Option.{cond_some, same_Some}
 use Rattle.hall_trait.specs.Pin.{first_id, second_id}
-use Rattle.node_key.specs.History.{is_open}
+use Rattle.hall_history.specs.History.{is_open}
 use Rattle.node_store.specs.Given.{ever}
 use Rattle.node_store.specs.Kept.{NodesKept}
 use Rattle.plain_hall.specs.FoundHistory.{entries}
 use Rattle.plain_hall.specs.PlainSeat.{IsHeld}
 use Rattle.plain_hall.specs.Rooted.{told_by, tree_of_root}
 use Rattle.plain_hall.specs.declared.kept_pin.KeptPin.{KeptPin}
-use Rattle.plain_hall.proofs.Found.{cond_some, some_is, held_now}
+use Rattle.plain_hall.proofs.Found.{held_now}
 use Rattle.plain_hall.proofs.Keeping.{nexts_same, nexts_stay}
 use Rattle.plain_hall.proofs.Told.{is_open-told}
 use Rattle.plain_hall.proofs.hall.PlainHallHall.ask.Goals as goal
@@ -29,7 +30,7 @@ invariant_of-self g c =
       space = now.space;
       held = λ p same.
           let P : KeptPin → Type 0 = λ q. IsHeld es q in
-          subst P (some_is pin p same)
+          subst P (same_Some pin p same)
           (held_now es pin (c.note-place.ensures.entry.last ∙ length-map es (told_by f)) first second);
     }
 

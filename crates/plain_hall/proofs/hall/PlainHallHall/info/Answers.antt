@@ -2,7 +2,7 @@ use Rattle.std.proofs.Common.{◌≡◌, ap, sym, ◌∙◌, List, None, Some, t
 use Rattle.std.specs.Prelude.{is_some}
 use Rattle.std.proofs.lemmas.Bool.{false≢true}
 use Rattle.std.proofs.lemmas.List.{take-map}
-use Rattle.node_key.specs.History.{Entry, info_of}
+use Rattle.hall_history.specs.History.{Entry, info_of}
 use Rattle.node_store.specs.Given.{ever}
 use Rattle.plain_hall.specs.FoundHistory.{entries}
 use Rattle.plain_hall.specs.Rooted.{told_by, tree_of_root}

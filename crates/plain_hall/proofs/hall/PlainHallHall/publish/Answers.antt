@@ -1,13 +1,14 @@
 use Rattle.std.proofs.Common.{◌≡◌, ◌-◌, ℕ, [], ◌∷◌, ◌++◌, length, arith, ap, ap₂, ◌∙◌, subst, sym}
 use Rattle.std.proofs.lemmas.List.{length-map}
-use Rattle.trace_base.specs.declared.asks.PassState.{PassState}
-use Rattle.trace_base.specs.declared.asks.PassState.TheVariants.{Straight}
+use Rattle.hall_history.specs.declared.asks.PassState.{PassState}
+use Rattle.hall_history.specs.declared.asks.PassState.TheVariants.{Straight}
 use Rattle.hall_trait.specs.Answers.{IsRootOf}
-use Rattle.node_key.specs.History.{IsTrackTree, Published, info_of, published_tree}
+use Rattle.hall_history.specs.History.{IsTrackTree, Published, info_of, published_tree}
 use Rattle.node_key.specs.Stakes.{stake}
 use Rattle.node_key.specs.Stands.{KeyAt}
 use Rattle.node_key.specs.Tree.{Tree}
 use Rattle.node_key.specs.Trees.{tree}
+use Rattle.hall_history.proofs.HistoryFronts.{loading_open}
 use Rattle.node_store.proofs.TreesUnder.{tree_is}
 use Rattle.node_store.specs.Given.{ever}
 use Rattle.node_store.specs.Kept.{KeepsFor}
@@ -19,7 +20,7 @@ use Rattle.plain_hall.proofs.Calls.{pass_facts, next_is_count, published_left, l
 use Rattle.plain_hall.proofs.Exchanging.{stands_some}
 use Rattle.plain_hall.proofs.Found.{held_more, not_published}
 use Rattle.plain_hall.proofs.Keeping.{nexts_stay}
-use Rattle.plain_hall.proofs.Legal.{open_within, loading_open}
+use Rattle.plain_hall.proofs.Legal.{open_within}
 use Rattle.plain_hall.proofs.Publishing.{root_of_tree, staked_stands}
 use Rattle.plain_hall.proofs.Steps.{owes, told_tracks}
 use Rattle.plain_hall.proofs.Told.{opened_ids-told, orderly_untold, published_count-told, tracks_of-told}

@@ -1,7 +1,7 @@
 use Rattle.std.proofs.Common.{◌≡◌, ℕ, None, sym, ◌∙◌, subst, take}
 use Rattle.hall_trait.specs.Nodes.{TellsTrack}
-use Rattle.trace_base.specs.declared.published.Published.TheVariants as told
-use Rattle.node_key.specs.History.{published_of}
+use Rattle.hall_history.specs.declared.published.Published.TheVariants as told
+use Rattle.hall_history.specs.History.{published_of}
 use Rattle.node_key.specs.Stands.{Stands}
 use Rattle.node_store.specs.Given.{ever}
 use Rattle.plain_hall.specs.FoundHistory.{entries}

@@ -1,6 +1,6 @@
 use Rattle.std.proofs.Common.{◌-◌, ◌∙◌, sym, arith}
 use Rattle.std.proofs.lemmas.List.{length-map}
-use Rattle.node_key.specs.History.{Sealed}
+use Rattle.hall_history.specs.History.{Sealed}
 use Rattle.node_store.specs.Given.{ever}
 use Rattle.plain_hall.specs.FoundHistory.{entries}
 use Rattle.plain_hall.specs.Rooted.{told_by, tree_of_root}

@@ -1,9 +1,10 @@
 -- The registry stays sound with a trace opened, and one trace more is open.
-use Rattle.std.proofs.Common.{◌≡◌, ◌+◌, ◌<◌, false, Result, Ok, Err, arith, length, sym, ap}
+use Rattle.std.proofs.Common.{◌≡◌, ◌+◌, ◌<◌, arith, length, sym, ap}
 use Rattle.std.proofs.Common.{◌∙◌}
 use Rattle.std.specs.Arc.{arc_value}
-use Rattle.std.specs.Result.{OnOk, is_err}
+use Rattle.std.specs.Result.{is_err}
 use Rattle.std.proofs.lemmas.Bool.{false≢true}
+use Rattle.list_lemmas.proofs.Options.{told_unless_err}
 use Rattle.trace_base.specs.declared.limits.TheConstants.{MAX_OPEN_TRACES}
 use Rattle.trace_base.specs.declared.names.TraceInfo.{TraceInfo}
 use Rattle.registry_core.specs.contracts.registry.Registry as registry
@@ -12,11 +13,6 @@ use Rattle.registry_core.specs.Registry.{FitsPlaces, open_count, taken_places}
 use Rattle.registry_core.proofs.SoundLoads.{still-opened}
 use Rattle.registry_core.proofs.registry.Registry.admit.Goals as goal
 use Rattle.registry_core.proofs.registry.Registry.admit.Goals.{in-Ok, in-Err}
-
--- what holds of a result that is Ok holds where it isn't Err
-told : {X E : Type 0} (r : Result X E) (P : Type 0) → false ≡ is_err r → OnOk r P → P
-told (Ok x) P is on = on
-told (Err e) P is on = absurd (false≢true is)
 
 pub invariant_of-self-2 : goal.invariant_of-self-2
 invariant_of-self-2 c =
@@ -31,7 +27,7 @@ invariant_of-self-2 c =
           omega (arith, tracks, taken, c.if-taken-promised-gt-MAX_PLACES.false) in
           let few : open_count c.self.inside.traces < MAX_OPEN_TRACES =
           omega (arith, c.if-self-eq-MAX_OPEN_TRACES.false, c.self.invariant.1, c.self.invariant.0.few) in
-          let added = told w.add-added.result _ (c.if-is_err.ensures.value ∙ ap is_err w.added-is)
+          let added = told_unless_err w.add-added.result _ (c.if-is_err.ensures.value ∙ ap is_err w.added-is)
           w.add-added.ensures.added in
           let still = still-opened (registry.the_view c.self.inside) info (c.len.result + 1) w.in-Ok.trace
           w.add-added.new.self c.self.invariant.0 fits few c.requires (ap (λ n. n + 1) tracks) w.in-Ok.ensures

@@ -1,5 +1,5 @@
 use Rattle.std.proofs.Common.{◌≡◌, ℕ, ◌≤◌, List, None, sym, ap, ◌∙◌, subst, arith}
-use Rattle.trace_base.specs.declared.asks.AskIds.{AskIds}
+use Rattle.hall_history.specs.declared.asks.AskIds.{AskIds}
 use Rattle.trace_base.specs.declared.limits.TheConstants.{MAX_PLACES}
 use Rattle.registry_core.specs.Asking.{first_unknown, with_users}
 use Rattle.registry_core.specs.Registry.{FitsPlaces, IsSoundRegistry, RegistryValue, after_entry, open_count}

@@ -1,9 +1,9 @@
 -- The trace of an id is open if it is kept and hasn't ended.
 use Rattle.std.proofs.Common.{◌≡◌, Bool, true, false, not, cond, None, Some, sym, ap, subst, ◌∙◌, refl}
 use Rattle.std.specs.Prelude.{is_some}
+use Rattle.list_lemmas.proofs.Found.{find_stricter}
 use Rattle.registry_core.specs.Registry.{RegistryValue, has_id, is_open_trace, open_trace}
 use Rattle.registry_core.specs.Trace.{Trace}
-use Rattle.registry_core.proofs.FoundItems.{find_stricter}
 use Rattle.registry_core.proofs.OneTrace.{open-kept}
 use Rattle.registry_core.proofs.registry.Registry.is_open.Goals as goal
 

@@ -1,8 +1,8 @@
 use Rattle.std.proofs.Common.{◌≡◌, ℕ, ◌==◌, ◌&&◌, not, if◌then◌else◌, List, filter, Option, None, option_map}
 use Rattle.std.proofs.Common.{sym, ap, ap₂, ◌∙◌, subst}
 use Rattle.std.specs.List.{find}
-use Rattle.trace_base.specs.declared.asks.AskIds.{AskIds}
-use Rattle.trace_base.specs.declared.asks.AskIds.TheVariants.{One, Two}
+use Rattle.hall_history.specs.declared.asks.AskIds.{AskIds}
+use Rattle.hall_history.specs.declared.asks.AskIds.TheVariants.{One, Two}
 use Rattle.registry_core.specs.declared.answers.RegUnpin.{RegUnpin}
 use Rattle.registry_core.specs.Asking.{AreUsed, after_unpin, unpinned, without_users}
 use Rattle.registry_core.specs.Registry.{IsSoundRegistry, RegistryValue, has_id, open_count}

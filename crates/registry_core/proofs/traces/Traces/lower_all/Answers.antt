@@ -1,8 +1,8 @@
 -- A trace that is named has the users that are taken away.
 use Rattle.std.proofs.Common.{◌≡◌, ◌≤◌, ◌∙◌, ap, subst, sym, List}
 use Rattle.std.specs.List.{All}
-use Rattle.trace_base.specs.declared.asks.AskIds.{AskIds}
-use Rattle.trace_base.specs.declared.asks.AskIds.TheVariants.{One, Two}
+use Rattle.hall_history.specs.declared.asks.AskIds.{AskIds}
+use Rattle.hall_history.specs.declared.asks.AskIds.TheVariants.{One, Two}
 use Rattle.registry_core.specs.Asking.{times_asked, without_users}
 use Rattle.registry_core.specs.Registry.{with_changed}
 use Rattle.registry_core.specs.Trace.{Trace, used_less}

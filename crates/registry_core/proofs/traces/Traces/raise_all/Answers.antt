@@ -1,10 +1,10 @@
 -- Each of two users more leaves room for the other.
 use Rattle.std.proofs.Common.{◌<◌, ◌-◌, ◌^◌, ◌∙◌, ap, arith, subst, sym, List}
 use Rattle.std.specs.List.{All}
+use Rattle.list_lemmas.proofs.All.{All-found}
 use Rattle.registry_core.specs.Asking.{with_users}
 use Rattle.registry_core.specs.Registry.{with_changed}
 use Rattle.registry_core.specs.Trace.{Trace, used_more}
-use Rattle.registry_core.proofs.FoundItems.{All-found}
 use Rattle.registry_core.proofs.UsersOfTraces.{fewer_than, raised_twice}
 use Rattle.registry_core.proofs.traces.Traces.raise_all.Goals as goal
 

@@ -2,11 +2,11 @@
 use Rattle.std.proofs.Common.{◌≡◌, ◌&&◌, ◌∙◌, None, Some, ap, false, sym}
 use Rattle.std.specs.List.{find}
 use Rattle.std.specs.Option.{option_map}
+use Rattle.list_lemmas.proofs.Found.{find_stricter}
 use Rattle.registry_core.specs.Registry.{has_id, kept_trace}
 use Rattle.registry_core.specs.Trace.{Trace, is_over, roots_in}
 use Rattle.registry_core.proofs.ById.{AreKept-from, filter-not_has_id, filter-not_has_id-none}
 use Rattle.registry_core.proofs.ById.{find-has_id-not, find-has_id-some, ids_rise, lent_kept, lookup_kept}
-use Rattle.registry_core.proofs.FoundItems.{find_stricter}
 use Rattle.registry_core.proofs.KeptTraces.{IsRising}
 use Rattle.registry_core.proofs.traces.Traces.take_over.Goals as goal
 use Rattle.registry_core.proofs.traces.Traces.take_over.Goals.{In_err-trace, In_ok-trace}

@@ -3,11 +3,12 @@ use Rattle.std.specs.Prelude.{if◌then◌else◌, Bool}
 use Rattle.std.specs.List.{list_any}
 use Rattle.indexmap.proofs.CallerLemmas.{insert_entry-new}
 use Rattle.indexmap.proofs.RemoveLemmas.{popped_last}
+use Rattle.list_lemmas.proofs.Booleans.{false_by_not, true_by_not}
 use Rattle.shard_core.specs.declared.hashed_key.HashedKey.{HashedKey}
 use Rattle.shard_core.specs.SameKey.{same_key}
 use Rattle.shard_core.specs.Listed.{listed}
 use Rattle.shard_core.proofs.Listed.{listed-push}
-use Rattle.shard_core.proofs.Places.{lacks_seen, there_seen, there_from, absent_from, fresh_count}
+use Rattle.shard_core.proofs.Places.{lacks_seen, there_seen, fresh_count}
 use Rattle.shard_core.proofs.nodes.Nodes.enter.Goals as goal
 
 pub returns-in-Err : goal.returns-in-Err
@@ -27,7 +28,7 @@ entered ks k had is = ap (λ (b : Bool). if b then ks else ks ++ k ∷ []) is
 
 pub returns-then-not-new : goal.returns-then-not-new
 returns-then-not-new c =
-    let had = there_from c.in-Ok.entered.1 _ c.in-Ok.ensures.added c.if-not-new.true in
+    let had = true_by_not c.in-Ok.entered.1 _ c.in-Ok.ensures.added c.if-not-new.true in
     let kept = c.in-Ok.ensures.keys ∙ entered c.self.inside.keys.keys c.args.key _ had in
     let stored = c.in-Ok.ensures.stored in
     let at = there_seen c.self.inside.keys.keys c.insert_full.new.self.keys c.self.inside.counts.entries
@@ -41,7 +42,7 @@ returns-then-not-new c =
 
 pub invariant_of-self-in-Ok-insert : goal.invariant_of-self-in-Ok-insert
 invariant_of-self-in-Ok-insert c =
-    let absent = absent_from c.in-Ok.entered.1 _ c.in-Ok.ensures.added c.if-not-new.false in
+    let absent = false_by_not c.in-Ok.entered.1 _ c.in-Ok.ensures.added c.if-not-new.false in
     let keys = c.in-Ok.ensures.keys ∙ entered c.self.inside.keys.keys c.args.key _ absent in
     let counts = c.in-Ok-insert.ensures.entries ∙ insert_entry-new nat_eq c.self.inside.counts c.args.number 1
     (fresh_count c.self.inside.keys.keys c.self.inside.counts.entries c.args.self.now c.args.number
@@ -60,7 +61,7 @@ invariant_of-self-in-Ok-insert c =
 
 pub returns-in-Ok-insert : goal.returns-in-Ok-insert
 returns-in-Ok-insert c =
-    let absent = absent_from c.in-Ok.entered.1 _ c.in-Ok.ensures.added c.if-not-new.false in
+    let absent = false_by_not c.in-Ok.entered.1 _ c.in-Ok.ensures.added c.if-not-new.false in
     let keys = c.in-Ok.ensures.keys ∙ entered c.self.inside.keys.keys c.args.key _ absent in
     let counts = c.in-Ok-insert.ensures.entries ∙ insert_entry-new nat_eq c.self.inside.counts c.args.number 1
     (fresh_count c.self.inside.keys.keys c.self.inside.counts.entries c.args.self.now c.args.number
@@ -76,7 +77,7 @@ returns-in-Ok-insert c =
 
 pub returns-in-Err-insert : goal.returns-in-Err-insert
 returns-in-Err-insert c =
-    let absent = absent_from c.in-Ok.entered.1 _ c.in-Ok.ensures.added c.if-not-new.false in
+    let absent = false_by_not c.in-Ok.entered.1 _ c.in-Ok.ensures.added c.if-not-new.false in
     let keys = c.in-Ok.ensures.keys ∙ entered c.self.inside.keys.keys c.args.key _ absent in
     let long = length-append c.self.inside.keys.keys (c.args.key ∷ []) in
     let back = popped_last c.self.inside.keys.keys c.pop.new.self.keys c.args.key c.pop.result

@@ -1,6 +1,6 @@
 use Rattle.std.proofs.Common.{◌≡◌, ℕ, length, arith}
-use Rattle.trace_base.proofs.Given.{left-given}
 use Rattle.std.proofs.lemmas.Grind.{common_steps}
+use Rattle.list_lemmas.proofs.Fronts.{left_given}
 use Rattle.trace_base.proofs.mem_source.MemSourceSource.read.Goals as goal
 
 pub returns-clause-read : goal.returns-clause-read
@@ -11,6 +11,6 @@ returns-clause-read c =
     let bytes : c.as_slice-bytes.result.now ≡ c.args.self.now.bytes = cc in (
       omega arith,
       grind (arith, common_steps),
-      left-given _ copied _ c.args.self.now.given n len
+      left_given _ copied _ c.args.self.now.given n len
           (rw (← bytes) c.copy_from_slice.ensures.after),
     )

@@ -1,9 +1,0 @@
-use Rattle.std.proofs.Common.{List, sym, subst}
-use Rattle.trace_base.specs.Stream.{IsLegal}
-use Rattle.trace_base.specs.declared.stream.Event.{Event}
-use Rattle.trace_base.proofs.LegalTest.{siblings-legal}
-use Rattle.event_model.proofs.tests.siblings.Goals as goal
-
-pub returns : goal.returns
-returns c = let P : List Event → Type 0 = λ es. IsLegal (record { start = 0; end = 20; events = es })
-    in subst P (sym c.in_ok-events.ensures) siblings-legal

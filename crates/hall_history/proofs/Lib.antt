@@ -1,0 +1,4 @@
+pub mod HistoryFronts
+pub mod HistoryMore
+pub mod Legal
+pub mod Samples

@@ -1,5 +1,0 @@
-use Rattle.paje_model.specs.StandsFor.{IsOpen}
-use Rattle.paje_model.proofs.tests.limit.Given as goal
-
-abbrev pub invariant-loop-n : goal.invariant-loop-n
-invariant-loop-n l = IsOpen l.entities

@@ -1,6 +1,0 @@
-use Rattle.plain_hall.proofs.SampleStakes.{built}
-use Rattle.plain_hall.proofs.tests.build.Goals as goal
-
-pub returns : goal.returns
-returns g c = built _ _ _ _ _ _ _ _ _ c.stake_f-f.ensures c.stake_f-again.ensures c.stake_main-main.ensures
-    c.stake_track-root.ensures

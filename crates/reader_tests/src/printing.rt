@@ -1,0 +1,124 @@
+//! What no clause says: that calls find memory; and values that were computed by hand, or by another program.
+use crate::written::{add_links, add_names, add_streams};
+use paje_print::{generate, generated_traces_are_canonical, write_trace};
+use std::alloc::Global;
+use std::test::Fail;
+use trace_base::TraceText;
+
+/// Adds the end of a trace, how many containers, tracks and link events it has, the names of its functions,
+/// its first three tracks and its link events.
+fn add_parts(out: &mut String, trace: &TraceText) -> Result<(), Fail> {
+    let names = &trace.names;
+    let (containers, tracks, links) = (
+        names.containers.len(),
+        trace.tracks.len(),
+        trace.links.len(),
+    );
+    writeln!(out, "end {} with {containers} {tracks} {links}", names.end)?;
+    add_names(out, "function", names.functions.as_slice())?;
+    if let Some(first) = trace.tracks.as_slice().get(..3) {
+        add_streams(out, first)?;
+    }
+    add_links(out, trace.links.as_slice())
+}
+
+fn add_generated(out: &mut String, alloc: Global, bundles: u32) -> Result<(), Fail> {
+    let trace = generate(alloc, 0, 4 * bundles.min(3))?;
+    add_parts(out, &trace)
+}
+
+/// No bundle; one; two, with a message; three. The third calls kernel 4, since the value behind three steps
+/// from 0 is 11166244414315200793.
+const GENERATED: &str = "\
+end 1000 with 65 128 0
+stream 0 1000: []
+stream 0 1000: []
+stream 0 1000: []
+end 3200 with 65 128 0
+function work
+function kernel 0
+stream 0 3200: [Enter(1, 1000), Enter(2, 1100), Leave(2100), Leave(2200)]
+stream 0 3200: []
+stream 0 3200: []
+end 3200 with 65 128 2
+function work
+function kernel 0
+stream 0 3200: [Enter(1, 1000), Enter(2, 1100), Leave(2100), Leave(2200)]
+stream 0 3200: [Enter(1, 1000), Enter(2, 1100), Leave(2100), Leave(2200)]
+stream 0 3200: []
+send 0 1 1 1000 8
+receive 0 1 2 2200 0
+end 7200 with 65 128 2
+function work
+function kernel 0
+function kernel 4
+stream 0 7200: [Enter(1, 1000), Enter(2, 1100), Leave(2100), Leave(2200)]
+stream 0 7200: [Enter(1, 1000), Enter(2, 1100), Leave(2100), Leave(2200)]
+stream 0 7200: [Enter(1, 1000), Enter(3, 1100), Leave(6100), Leave(6200)]
+send 0 1 1 1000 8
+receive 0 1 2 2200 0
+";
+
+#[test]
+fn generated_traces(rt: HostRuntime) -> Result<(), Fail> {
+    let mut out = String::new(rt.alloc());
+    for bundles in 0..4u32 {
+        add_generated(&mut out, rt.alloc(), bundles)?;
+    }
+    assert_eq!(rt; out.as_str(), GENERATED);
+    Ok(())
+}
+
+#[test]
+fn the_text_of_no_bundle(rt: HostRuntime) -> Result<(), Fail> {
+    generated_traces_are_canonical();
+    let trace = generate(rt.alloc(), 0, 0)?;
+    let text = write_trace(rt.alloc(), &trace)?;
+    assert_eq!(rt; text.len(), 7096);
+    assert!(rt;
+        text.as_slice()
+            .starts_with(b"%EventDef PajeDefineContainerType 0\n")
+    );
+    Ok(())
+}
+
+/// Adds the lines of a text that push or pop a state, or are an end of a message.
+fn add_states_and_links(out: &mut String, text: &str) -> Result<(), Fail> {
+    for line in text.lines() {
+        if line.starts_with("5 ")
+            || line.starts_with("6 ")
+            || line.starts_with("8 ")
+            || line.starts_with("9 ")
+        {
+            writeln!(out, "{line}")?;
+        }
+    }
+    Ok(())
+}
+
+/// On both tracks of the first container `work` calls a kernel, and one bundle sends the other a message. The
+/// lines are those that another program writes for the same trace.
+const TWO_BUNDLES: &str = "\
+5 0.000001000 s0 c1 \"work\"
+5 0.000001100 s0 c1 \"kernel 0\"
+6 0.000002100 s0 c1
+6 0.000002200 s0 c1
+5 0.000001000 s1 c1 \"work\"
+5 0.000001100 s1 c1 \"kernel 0\"
+6 0.000002100 s1 c1
+6 0.000002200 s1 c1
+8 0.000001000 l0 0 m c1 \"1\" 8
+9 0.000002200 l0 0 m c2 \"1\"
+";
+
+#[test]
+fn the_text_of_two_bundles(rt: HostRuntime) -> Result<(), Fail> {
+    generated_traces_are_canonical();
+    let trace = generate(rt.alloc(), 0, 8)?;
+    let text = write_trace(rt.alloc(), &trace)?;
+    assert_eq!(rt; text.len(), 7350);
+    let mut out = String::new(rt.alloc());
+    add_states_and_links(&mut out, str::from_utf8(text.as_slice())?)?;
+    assert_eq!(rt; out.as_str(), TWO_BUNDLES);
+    Ok(())
+}

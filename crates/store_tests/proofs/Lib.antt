@@ -1,0 +1,4 @@
+mod Owning
+mod SampleLoads
+mod SampleStakes
+mod SampleTracks
