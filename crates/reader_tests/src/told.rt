@@ -48,6 +48,7 @@ fn define(alloc: Global, table: &mut DefTable, line: &[u8]) -> Result<(), Fail> 
     Ok(table.line(1, line, read.as_slice())?)
 }
 
+/// The table of all the definitions.
 pub fn defined(alloc: Global) -> Result<DefTable, Fail> {
     let mut table = DefTable::new(alloc);
     for line in DEFINITIONS.split(", ") {
@@ -86,6 +87,7 @@ pub fn answer(
     }
 }
 
+/// Adds an answer as rows write it, behind a blank.
 pub fn add_answer(out: &mut String, answer: Result<Effect, ModelFault>) -> Result<(), Fail> {
     match answer {
         Ok(effect) => write!(out, " {effect:?}")?,
