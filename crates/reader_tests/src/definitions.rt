@@ -4,9 +4,11 @@ ghost use Rattle.std.specs.Prelude.{length};
 ghost use Rattle.paje_lex.specs.LineGrammar.{StandIn};
 
 use crate::rows::add_rows;
+use crate::written::text_of;
 use paje_defs::{DefTable, Fields, Role};
 use paje_lex::{Token, is_definition, tokens};
 use std::alloc::Global;
+use std::process::Abort;
 use std::test::Fail;
 use trace_base::MAX_TRACE_LINE;
 
@@ -116,14 +118,19 @@ const ROLES: [Role; 12] = [
     Role::Size,
 ];
 
+fn add_role(out: &mut String, fields: &Fields<'_>, role: Role) -> Result<(), Fail> {
+    if let Some(text) = fields.text(role) {
+        let text = text_of(text);
+        write!(out, " {role:?}={text}")?;
+    }
+    Ok(())
+}
+
 fn add_fields(out: &mut String, fields: &Fields<'_>) -> Result<(), Fail> {
     let (kind, time, size) = (fields.kind(), fields.time(), fields.size());
     write!(out, " {kind:?} {time} {size}")?;
     for role in ROLES {
-        if let Some(text) = fields.text(role) {
-            let text = str::from_utf8(text)?;
-            write!(out, " {role:?}={text}")?;
-        }
+        add_role(out, fields, role)?;
     }
     Ok(())
 }
@@ -154,7 +161,8 @@ fn add_definition(
     Ok(())
 }
 
-fn add_line(
+/// Adds what a table tells of a line.
+pub fn add_line(
     out: &mut String,
     alloc: Global,
     table: &mut DefTable,
@@ -181,11 +189,16 @@ fn told(alloc: Global, rows: &str) -> Result<String, Fail> {
     Ok(out)
 }
 
-#[test]
-fn lines_told(rt: HostRuntime) -> Result<(), Fail> {
-    for rows in [DEFINED, REFUSED_INSIDE, REFUSED_AT_ONCE] {
-        let told = told(rt.alloc(), rows)?;
-        assert_eq!(rt; told.as_str(), rows);
+/// The rows of tables are told as they stand.
+fn are_told(rt: &impl Abort, alloc: Global, tables: &[&str]) -> Result<(), Fail> {
+    for rows in tables {
+        let told = told(alloc, rows)?;
+        assert_eq!(rt; told.as_str(), *rows);
     }
     Ok(())
+}
+
+#[test]
+fn lines_told(rt: HostRuntime) -> Result<(), Fail> {
+    are_told(&rt, rt.alloc(), &[DEFINED, REFUSED_INSIDE, REFUSED_AT_ONCE])
 }

@@ -1,14 +1,16 @@
 //! Small traces, told line by line. Their answers and what they say are worked by hand.
-ghost use Rattle.std.specs.Prelude.{IfOk};
-ghost use Rattle.paje_model.specs.StandsFor.{IsOpen};
+ghost use Rattle.std.specs.Prelude.{◌≡◌, List, IfOk, true};
+ghost use Rattle.paje_lines.specs.EventLine.{EventLine};
+ghost use Rattle.paje_model.specs.StandsFor.{IsOpen, StandsFor};
 
 use crate::rows::add_rows;
-use crate::told::{add_answer, add_rows_told, answer, defined};
+use crate::told::{add_answer, add_rows_told, answer, define_all};
 use crate::written::add_trace;
 use paje_defs::DefTable;
 use paje_lines::{Effect, ModelFault};
 use paje_model::Entities;
 use std::alloc::Global;
+use std::process::Abort;
 use std::test::Fail;
 
 /// Main calls f twice, and its container is destroyed.
@@ -282,32 +284,50 @@ stream 0 8: [Enter(2, 3), Enter(1, 5), Leave(8), Leave(8)]
 stream 0 8: [Enter(1, 4), Leave(8)]
 ";
 
-/// Adds what entities say, to which nothing was told that is refused.
-fn add_said(
+/// Tells entities the rows at the front of a text, adds these with their answers, and says whether none was
+/// refused.
+fn tell(
     out: &mut String,
     alloc: Global,
     definitions: &DefTable,
-    mut entities: Entities,
-) -> Result<(), Fail>
-    requires { IsOpen entities }
+    entities: &mut Entities,
+    text: &str,
+) -> Result<bool, Fail>
+    requires { IsOpen entities.old }
+    ensures { IfOk result (λ taken. taken ≡ true → (lines : List EventLine)
+        × StandsFor lines entities.new) }
 {
-    match answer(alloc, definitions, &mut entities, 0, "14 0")? {
-        Ok(_) => {
-            let trace = entities.finish()?;
-            add_trace(out, &trace)
-        }
-        Err(_) => Ok(()),
+    add_rows_told(out, alloc, definitions, entities, 34, text)?;
+    match answer(alloc, definitions, entities, 0, "14 0")? {
+        Ok(_) => Ok(true),
+        Err(_) => Ok(false),
     }
 }
 
-/// The rows at the front of a text, told to new entities, with their answers, and what they say where none is
-/// refused.
-fn told(alloc: Global, definitions: &DefTable, text: &str) -> Result<String, Fail> {
-    let mut out = String::new(alloc);
+/// The same of new entities; and what they say, if none was refused.
+fn add_told(
+    out: &mut String,
+    alloc: Global,
+    definitions: &DefTable,
+    text: &str,
+) -> Result<(), Fail> {
     let mut entities = Entities::new(alloc)?;
-    add_rows_told(&mut out, alloc, definitions, &mut entities, 34, text)?;
-    add_said(&mut out, alloc, definitions, entities)?;
-    Ok(out)
+    match tell(out, alloc, definitions, &mut entities, text) {
+        Ok(true) => {
+            let trace = entities.finish()?;
+            let added = add_trace(out, &trace);
+            drop(trace);
+            added
+        }
+        Ok(false) => {
+            drop(entities);
+            Ok(())
+        }
+        Err(fail) => {
+            drop(entities);
+            Err(fail)
+        }
+    }
 }
 
 const TRACES: [&str; 13] = [
@@ -326,14 +346,28 @@ const TRACES: [&str; 13] = [
     STAGE,
 ];
 
-#[test]
-fn traces(rt: HostRuntime) -> Result<(), Fail> {
-    let definitions = defined(rt.alloc())?;
-    for text in TRACES {
-        let told = told(rt.alloc(), &definitions, text)?;
-        assert_eq!(rt; told.as_str(), text);
+/// Traces are told as they stand.
+fn are_told(
+    rt: &impl Abort,
+    alloc: Global,
+    definitions: &mut DefTable,
+    traces: &[&str],
+) -> Result<(), Fail> {
+    define_all(alloc, definitions)?;
+    for text in traces {
+        let mut out = String::new(alloc);
+        add_told(&mut out, alloc, definitions, text)?;
+        assert_eq!(rt; out.as_str(), *text);
     }
     Ok(())
+}
+
+#[test]
+fn traces(rt: HostRuntime) -> Result<(), Fail> {
+    let mut definitions = DefTable::new(rt.alloc());
+    let told = are_told(&rt, rt.alloc(), &mut definitions, &TRACES);
+    drop(definitions);
+    told
 }
 
 /// A type of each sort, and three containers: the first has two tracks, and the third is destroyed.
@@ -456,16 +490,6 @@ const LINK_ROWS: &str = "\
 20 0 => Dropped
 ";
 
-/// Entities that took the stage.
-fn staged(alloc: Global, definitions: &DefTable) -> Result<Entities, Fail>
-    ensures { IfOk result IsOpen }
-{
-    let mut out = String::new(alloc);
-    let mut entities = Entities::new(alloc)?;
-    add_rows_told(&mut out, alloc, definitions, &mut entities, 1, STAGE)?;
-    Ok(entities)
-}
-
 /// Adds the answer to a line; and that to a next one, which nothing could be against, unless a refusal stays.
 fn add_answers(
     out: &mut String,
@@ -481,46 +505,6 @@ fn add_answers(
     add_answer(out, first)?;
     if next != first.and(Ok(Effect::Dropped)) {
         add_answer(out, next)?;
-    }
-    Ok(())
-}
-
-fn add_staged(
-    out: &mut String,
-    alloc: Global,
-    definitions: &DefTable,
-    line: &str,
-) -> Result<(), Fail> {
-    let mut entities = staged(alloc, definitions)?;
-    add_answers(out, alloc, definitions, &mut entities, line)
-}
-
-/// The rows of a table, whose lines are told behind the stage, with their answers.
-fn behind_stage(alloc: Global, definitions: &DefTable, rows: &str) -> Result<String, Fail> {
-    let mut out = String::new(alloc);
-    add_rows(
-        &mut out,
-        rows,
-        |out, line| add_staged(out, alloc, definitions, line),
-    )?;
-    Ok(out)
-}
-
-const TABLES: [&str; 6] = [
-    TYPE_ROWS,
-    VALUE_ROWS,
-    CREATION_ROWS,
-    DESTRUCTION_ROWS,
-    STATE_ROWS,
-    LINK_ROWS,
-];
-
-#[test]
-fn lines_behind_the_stage(rt: HostRuntime) -> Result<(), Fail> {
-    let definitions = defined(rt.alloc())?;
-    for rows in TABLES {
-        let told = behind_stage(rt.alloc(), &definitions, rows)?;
-        assert_eq!(rt; told.as_str(), rows);
     }
     Ok(())
 }
@@ -574,29 +558,77 @@ fn add_limit(
     Ok(())
 }
 
-fn add_staged_limit(
+/// The same behind the stage. A line with `#` stands for rounds.
+fn add_staged(
     out: &mut String,
     alloc: Global,
     definitions: &DefTable,
-    lines: &str,
-) -> Result<(), Fail> {
-    let mut entities = staged(alloc, definitions)?;
-    add_limit(out, alloc, definitions, &mut entities, lines)
+    entities: &mut Entities,
+    line: &str,
+) -> Result<(), Fail>
+    requires { IsOpen entities.old }
+{
+    let mut stage = String::new(alloc);
+    add_rows_told(&mut stage, alloc, definitions, entities, 1, STAGE)?;
+    if line.contains('#') {
+        add_limit(out, alloc, definitions, entities, line)
+    } else {
+        add_answers(out, alloc, definitions, entities, line)
+    }
 }
 
-/// The same of rounds of lines.
-fn limits_behind_stage(alloc: Global, definitions: &DefTable, rows: &str) -> Result<String, Fail> {
-    let mut out = String::new(alloc);
-    add_rows(&mut out, rows, |out, lines| {
-        add_staged_limit(out, alloc, definitions, lines)
-    })?;
-    Ok(out)
+/// The same of new entities.
+fn add_behind_stage(
+    out: &mut String,
+    alloc: Global,
+    definitions: &DefTable,
+    line: &str,
+) -> Result<(), Fail> {
+    let mut entities = Entities::new(alloc)?;
+    let added = add_staged(out, alloc, definitions, &mut entities, line);
+    drop(entities);
+    added
+}
+
+const TABLES: [&str; 6] = [
+    TYPE_ROWS,
+    VALUE_ROWS,
+    CREATION_ROWS,
+    DESTRUCTION_ROWS,
+    STATE_ROWS,
+    LINK_ROWS,
+];
+
+/// Tables of lines behind the stage have their answers.
+fn are_answered(
+    rt: &impl Abort,
+    alloc: Global,
+    definitions: &mut DefTable,
+    tables: &[&str],
+) -> Result<(), Fail> {
+    define_all(alloc, definitions)?;
+    for rows in tables {
+        let mut out = String::new(alloc);
+        add_rows(&mut out, rows, |out, line| {
+            add_behind_stage(out, alloc, definitions, line)
+        })?;
+        assert_eq!(rt; out.as_str(), *rows);
+    }
+    Ok(())
+}
+
+#[test]
+fn lines_behind_the_stage(rt: HostRuntime) -> Result<(), Fail> {
+    let mut definitions = DefTable::new(rt.alloc());
+    let answered = are_answered(&rt, rt.alloc(), &mut definitions, &TABLES);
+    drop(definitions);
+    answered
 }
 
 #[test]
 fn limits(rt: HostRuntime) -> Result<(), Fail> {
-    let definitions = defined(rt.alloc())?;
-    let told = limits_behind_stage(rt.alloc(), &definitions, LIMIT_ROWS)?;
-    assert_eq!(rt; told.as_str(), LIMIT_ROWS);
-    Ok(())
+    let mut definitions = DefTable::new(rt.alloc());
+    let answered = are_answered(&rt, rt.alloc(), &mut definitions, &[LIMIT_ROWS]);
+    drop(definitions);
+    answered
 }

@@ -1,5 +1,7 @@
 //! What no clause says: that calls find memory; and values that were computed by hand, or by another program.
-use crate::written::{add_links, add_names, add_streams};
+ghost use Rattle.std.specs.Prelude.{◌≤◌};
+
+use crate::written::{add_links, add_names, add_streams, text_of};
 use paje_print::{generate, generated_traces_are_canonical, write_trace};
 use std::alloc::Global;
 use std::test::Fail;
@@ -24,7 +26,9 @@ fn add_parts(out: &mut String, trace: &TraceText) -> Result<(), Fail> {
 
 fn add_generated(out: &mut String, alloc: Global, bundles: u32) -> Result<(), Fail> {
     let trace = generate(alloc, 0, 4 * bundles.min(3))?;
-    add_parts(out, &trace)
+    let added = add_parts(out, &trace);
+    drop(trace);
+    added
 }
 
 /// No bundle; one; two, with a message; three. The third calls kernel 4, since the value behind three steps
@@ -69,21 +73,10 @@ fn generated_traces(rt: HostRuntime) -> Result<(), Fail> {
     Ok(())
 }
 
-#[test]
-fn the_text_of_no_bundle(rt: HostRuntime) -> Result<(), Fail> {
-    generated_traces_are_canonical();
-    let trace = generate(rt.alloc(), 0, 0)?;
-    let text = write_trace(rt.alloc(), &trace)?;
-    assert_eq!(rt; text.len(), 7096);
-    assert!(rt;
-        text.as_slice()
-            .starts_with(b"%EventDef PajeDefineContainerType 0\n")
-    );
-    Ok(())
-}
-
-/// Adds the lines of a text that push or pop a state, or are an end of a message.
-fn add_states_and_links(out: &mut String, text: &str) -> Result<(), Fail> {
+/// Adds the length of a text, its first line, and its lines that push or pop a state or are an end of a
+/// message.
+fn add_lines(out: &mut String, text: &str) -> Result<(), Fail> {
+    writeln!(out, "{} {:?}", text.len(), text.lines().next())?;
     for line in text.lines() {
         if line.starts_with("5 ")
             || line.starts_with("6 ")
@@ -96,9 +89,22 @@ fn add_states_and_links(out: &mut String, text: &str) -> Result<(), Fail> {
     Ok(())
 }
 
-/// On both tracks of the first container `work` calls a kernel, and one bundle sends the other a message. The
-/// lines are those that another program writes for the same trace.
-const TWO_BUNDLES: &str = "\
+/// Adds this of the text of a generated trace.
+fn add_written(out: &mut String, alloc: Global, size: u32) -> Result<(), Fail>
+    requires { size ≤ 100 }
+{
+    generated_traces_are_canonical();
+    let trace = generate(alloc, 0, size)?;
+    let text = write_trace(alloc, &trace);
+    drop(trace);
+    add_lines(out, text_of(text?.as_slice()))
+}
+
+/// No bundle; and two, where on both tracks of the first container `work` calls a kernel, and one bundle
+/// sends the other a message. The lines are those that another program writes for the same trace.
+const WRITTEN: &str = "\
+7096 Some(\"%EventDef PajeDefineContainerType 0\")
+7350 Some(\"%EventDef PajeDefineContainerType 0\")
 5 0.000001000 s0 c1 \"work\"
 5 0.000001100 s0 c1 \"kernel 0\"
 6 0.000002100 s0 c1
@@ -112,13 +118,10 @@ const TWO_BUNDLES: &str = "\
 ";
 
 #[test]
-fn the_text_of_two_bundles(rt: HostRuntime) -> Result<(), Fail> {
-    generated_traces_are_canonical();
-    let trace = generate(rt.alloc(), 0, 8)?;
-    let text = write_trace(rt.alloc(), &trace)?;
-    assert_eq!(rt; text.len(), 7350);
+fn texts_of_generated_traces(rt: HostRuntime) -> Result<(), Fail> {
     let mut out = String::new(rt.alloc());
-    add_states_and_links(&mut out, str::from_utf8(text.as_slice())?)?;
-    assert_eq!(rt; out.as_str(), TWO_BUNDLES);
+    add_written(&mut out, rt.alloc(), 0)?;
+    add_written(&mut out, rt.alloc(), 8)?;
+    assert_eq!(rt; out.as_str(), WRITTEN);
     Ok(())
 }

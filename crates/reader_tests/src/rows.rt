@@ -10,10 +10,12 @@ pub fn add_rows<F: FnMut(&mut String, &str) -> Result<(), Fail>>(
     requires { F.IsAlwaysCallable add_answer }
 {
     for row in rows.lines() {
-        let (question, _) = row.split_once(" =>").ok_or("no answer")?;
-        write!(out, "{question} =>")?;
-        add_answer(out, question)?;
-        out.push_str("\n")?;
+        if let Some((question, _)) = row.split_once(" =>") {
+            out.push_str(question)?;
+            out.push_str(" =>")?;
+            add_answer(out, question)?;
+            out.push_str("\n")?;
+        }
     }
     Ok(())
 }

@@ -13,41 +13,66 @@ fn add_refusal(out: &mut String, alloc: Global, text: &[u8]) -> Result<(), Fail>
         return Err(Fail::from("a long text"));
     }
     match read_trace(alloc, text) {
-        Ok(_) => out.push_str(" taken")?,
+        Ok(trace) => {
+            drop(trace);
+            out.push_str(" taken")?;
+        }
         Err(ReadFault::Refused(ReadRefusal { line, why })) => write!(out, " {line} {why:?}")?,
         Err(ReadFault::Memory) => return Err(Fail::from("no memory")),
     }
     Ok(())
 }
 
-/// The same of lines between a front and an end. In place of a newline they have `;`.
-fn add_refusal_between(
+/// What lines stand between. They have `;` in place of a newline, and `~` in place of as many `a` as make
+/// them `len` bytes.
+#[derive(Clone, Copy)]
+struct Frame<'a> {
+    front: &'a str,
+    len: usize,
+    end: &'a str,
+}
+
+/// Lines with the bytes that stand for others replaced.
+fn replaced(alloc: Global, lines: &str, len: usize) -> Result<String, Fail> {
+    let fill = "a".repeat(alloc, len.saturating_add(1).saturating_sub(lines.len()))?;
+    let filled = lines.replace(alloc, "~", fill.as_str())?;
+    Ok(filled.as_str().replace(alloc, ";", "\n")?)
+}
+
+/// Adds why lines in a frame are refused, where they are.
+fn add_refusal_within(
     out: &mut String,
     alloc: Global,
-    front: &str,
+    frame: &Frame<'_>,
     lines: &str,
-    end: &str,
 ) -> Result<(), Fail> {
-    let lines = lines.replace(alloc, ";", "\n")?;
+    let lines = replaced(alloc, lines, frame.len)?;
+    let (front, end) = (frame.front, frame.end);
     let text = format!(in alloc; "{front}{lines}{end}")?;
     add_refusal(out, alloc, text.as_str().as_bytes())
 }
 
-/// The rows of a table of such lines, each with why it is refused, where it is.
-fn refused(alloc: Global, front: &str, rows: &str, end: &str) -> Result<String, Fail> {
+/// The rows of a table of such lines tell why they are refused, where they are.
+fn are_right(rt: &impl Abort, alloc: Global, frame: &Frame<'_>, rows: &str) -> Result<(), Fail> {
     let mut out = String::new(alloc);
     add_rows(&mut out, rows, |out, lines| {
-        add_refusal_between(out, alloc, front, lines, end)
+        add_refusal_within(out, alloc, frame, lines)
     })?;
-    Ok(out)
+    assert_eq!(rt; out.as_str(), rows);
+    Ok(())
 }
 
-/// The rows of a table are right for lines at the end of a text, without and with a newline, and before two
-/// lines that are refused too.
-fn are_refused(rt: &impl Abort, alloc: Global, front: &str, rows: &str) -> Result<(), Fail> {
+/// They do so for lines at the end of a text, without and with a newline, and before two lines that are
+/// refused too.
+fn are_refused(
+    rt: &impl Abort,
+    alloc: Global,
+    front: &str,
+    len: usize,
+    rows: &str,
+) -> Result<(), Fail> {
     for end in ["", "\n", "\n%\nx\n"] {
-        let told = refused(alloc, front, rows, end)?;
-        assert_eq!(rt; told.as_str(), rows);
+        are_right(rt, alloc, &Frame { front, len, end }, rows)?;
     }
     Ok(())
 }
@@ -117,8 +142,8 @@ const HEAD_ROWS: &str = "\
 
 #[test]
 fn refused_lines(rt: HostRuntime) -> Result<(), Fail> {
-    are_refused(&rt, rt.alloc(), "", SMALL_ROWS)?;
-    are_refused(&rt, rt.alloc(), HEAD, HEAD_ROWS)
+    are_refused(&rt, rt.alloc(), "", 0, SMALL_ROWS)?;
+    are_refused(&rt, rt.alloc(), HEAD, 0, HEAD_ROWS)
 }
 
 /// Definitions that are open at the end of a text, and lines that are skipped and counted.
@@ -135,9 +160,12 @@ const WHOLE_ROWS: &str = "\
 
 #[test]
 fn whole_texts(rt: HostRuntime) -> Result<(), Fail> {
-    let told = refused(rt.alloc(), "", WHOLE_ROWS, "")?;
-    assert_eq!(rt; told.as_str(), WHOLE_ROWS);
-    Ok(())
+    let frame = Frame {
+        front: "",
+        len: 0,
+        end: "",
+    };
+    are_right(&rt, rt.alloc(), &frame, WHOLE_ROWS)
 }
 
 /// The head and a container, behind which so many lines stand, each with its number in it.
@@ -154,30 +182,45 @@ const DEEP_ROWS: &str = "4 0 S p0 f => 293 Deep\n";
 /// The head has two types, and a trace at most 4,096.
 const TYPE_ROWS: &str = "1 t P x => 4131 TooMany(Types)\n";
 
-#[test]
-fn one_too_many(rt: HostRuntime) -> Result<(), Fail> {
-    let alloc = rt.alloc();
-    let calls = repeated(alloc, "4 0 S p0 f", "", 256)?;
-    are_refused(&rt, alloc, calls.as_str(), DEEP_ROWS)?;
-    let types = repeated(alloc, "1 t", " P x", 4_094)?;
-    are_refused(&rt, alloc, types.as_str(), TYPE_ROWS)
+const TAKEN_ROWS: &str = " => taken\n";
+
+/// So many lines behind the head and a container are taken.
+fn are_taken(
+    rt: &impl Abort,
+    alloc: Global,
+    begin: &str,
+    end: &str,
+    count: u32,
+) -> Result<(), Fail> {
+    let text = repeated(alloc, begin, end, count)?;
+    let frame = Frame {
+        front: text.as_str(),
+        len: 0,
+        end: "",
+    };
+    are_right(rt, alloc, &frame, TAKEN_ROWS)
 }
 
-const TAKEN_ROWS: &str = " => taken\n";
+/// Behind them lines are refused.
+fn are_many(
+    rt: &impl Abort,
+    alloc: Global,
+    begin: &str,
+    end: &str,
+    count: u32,
+    rows: &str,
+) -> Result<(), Fail> {
+    let text = repeated(alloc, begin, end, count)?;
+    are_refused(rt, alloc, text.as_str(), 0, rows)
+}
 
 #[test]
 fn as_many_as_may_be(rt: HostRuntime) -> Result<(), Fail> {
-    let alloc = rt.alloc();
-    for (begin, end, count) in [
-        ("4 0 S p0 f", "", 255),
-        ("4 0 S p0 f", "", 256),
-        ("1 t", " P x", 4_094),
-    ] {
-        let text = repeated(alloc, begin, end, count)?;
-        let told = refused(alloc, text.as_str(), TAKEN_ROWS, "")?;
-        assert_eq!(rt; told.as_str(), TAKEN_ROWS);
-    }
-    Ok(())
+    are_taken(&rt, rt.alloc(), "4 0 S p0 f", "", 255)?;
+    are_taken(&rt, rt.alloc(), "4 0 S p0 f", "", 256)?;
+    are_many(&rt, rt.alloc(), "4 0 S p0 f", "", 256, DEEP_ROWS)?;
+    are_taken(&rt, rt.alloc(), "1 t", " P x", 4_094)?;
+    are_many(&rt, rt.alloc(), "1 t", " P x", 4_094, TYPE_ROWS)
 }
 
 // The reason that is looked for earlier is told.
@@ -195,36 +238,6 @@ fn not_text(rt: HostRuntime) -> Result<(), Fail> {
         " 1 NotText(1) 2 NotText(2) 2 NotText(1) taken 1 NotText(1)"
     );
     Ok(())
-}
-
-/// Adds why a line of so many bytes is refused between a front and an end, where it is. It has as many `a` as
-/// it takes in place of `~`.
-fn add_refusal_of_long(
-    out: &mut String,
-    alloc: Global,
-    front: &str,
-    line: &str,
-    len: usize,
-    end: &str,
-) -> Result<(), Fail> {
-    let fill = "a".repeat(alloc, len.saturating_add(1).saturating_sub(line.len()))?;
-    let line = line.replace(alloc, "~", fill.as_str())?;
-    add_refusal_between(out, alloc, front, line.as_str(), end)
-}
-
-/// The rows of a table of such lines, each with why it is refused, where it is.
-fn refused_long(
-    alloc: Global,
-    front: &str,
-    rows: &str,
-    len: usize,
-    end: &str,
-) -> Result<String, Fail> {
-    let mut out = String::new(alloc);
-    add_rows(&mut out, rows, |out, line| {
-        add_refusal_of_long(out, alloc, front, line, len, end)
-    })?;
-    Ok(out)
 }
 
 /// A definition on three lines.
@@ -260,32 +273,40 @@ const LONG_FIRST_ROWS: &str = "\
 
 #[test]
 fn longest_lines(rt: HostRuntime) -> Result<(), Fail> {
-    for (front, rows, len, end) in [
-        (DEFINED, LONGEST_ROWS, 65_536, "\n4 1\n"),
-        (DEFINED, LONGER_ROWS, 65_537, ""),
-        (DEFINED, LONGER_ROWS, 65_537, "\n"),
-        (DEFINED, LONGER_ROWS, 65_537, "\n%\nx\n"),
-        ("", LONG_FIRST_ROWS, 65_537, ""),
-        ("", LONG_FIRST_ROWS, 65_537, "\n"),
-        ("", LONG_FIRST_ROWS, 65_537, "\n%\nx\n"),
-    ] {
-        let told = refused_long(rt.alloc(), front, rows, len, end)?;
-        assert_eq!(rt; told.as_str(), rows);
-    }
-    Ok(())
+    let frame = Frame {
+        front: DEFINED,
+        len: 65_536,
+        end: "\n4 1\n",
+    };
+    are_right(&rt, rt.alloc(), &frame, LONGEST_ROWS)?;
+    are_refused(&rt, rt.alloc(), DEFINED, 65_537, LONGER_ROWS)?;
+    are_refused(&rt, rt.alloc(), "", 65_537, LONG_FIRST_ROWS)
 }
 
-/// What a front and lines behind it say.
-fn said(alloc: Global, front: &str, lines: &str) -> Result<String, Fail> {
-    let text = format!(in alloc; "{front}{lines}")?;
-    let text = text.as_str().as_bytes();
+/// Adds what a text says.
+fn add_said(out: &mut String, alloc: Global, text: &[u8]) -> Result<(), Fail> {
     if text.len() as u64 > MAX_TEXT {
         return Err(Fail::from("a long text"));
     }
     let trace = read_trace(alloc, text)?;
+    let added = add_trace(out, &trace);
+    drop(trace);
+    added
+}
+
+/// A front and lines behind it say this.
+fn is_said(
+    rt: &impl Abort,
+    alloc: Global,
+    front: &str,
+    lines: &str,
+    wanted: &str,
+) -> Result<(), Fail> {
+    let text = format!(in alloc; "{front}{lines}")?;
     let mut out = String::new(alloc);
-    add_trace(&mut out, &trace)?;
-    Ok(out)
+    add_said(&mut out, alloc, text.as_str().as_bytes())?;
+    assert_eq!(rt; out.as_str(), wanted);
+    Ok(())
 }
 
 /// Main runs for half a second, and calls f twice.
@@ -370,26 +391,38 @@ send 0 k1 1 1000000000 100
 receive 0 k1 2 1500000000 0
 ";
 
+#[test]
+fn traces_of_texts(rt: HostRuntime) -> Result<(), Fail> {
+    is_said(&rt, rt.alloc(), HEAD, CALLS, CALLS_SAID)?;
+    is_said(&rt, rt.alloc(), SPACED_HEAD, SET, SET_SAID)?;
+    is_said(&rt, rt.alloc(), SPACED_HEAD, PUSHED, PUSHED_SAID)?;
+    is_said(&rt, rt.alloc(), HEAD, MESSAGE, MESSAGE_SAID)
+}
+
+#[test]
+fn bytes_of_the_first_text(rt: HostRuntime) {
+    assert_eq!(rt; HEAD.len().saturating_add(CALLS.len()), 697);
+}
+
+/// What each of four texts without lines that count says.
 const NOTHING_SAID: &str = "\
+end 0
+container 0 0 0
+end 0
+container 0 0 0
+end 0
+container 0 0 0
 end 0
 container 0 0 0
 ";
 
 #[test]
-fn traces_of_texts(rt: HostRuntime) -> Result<(), Fail> {
-    assert_eq!(rt; HEAD.len().saturating_add(CALLS.len()), 697);
-    for (front, lines, wanted) in [
-        (HEAD, CALLS, CALLS_SAID),
-        (SPACED_HEAD, SET, SET_SAID),
-        (SPACED_HEAD, PUSHED, PUSHED_SAID),
-        (HEAD, MESSAGE, MESSAGE_SAID),
-        ("", "", NOTHING_SAID),
-        ("", "\n", NOTHING_SAID),
-        ("", "# a", NOTHING_SAID),
-        ("", "\r\n \t\n", NOTHING_SAID),
-    ] {
-        let told = said(rt.alloc(), front, lines)?;
-        assert_eq!(rt; told.as_str(), wanted);
-    }
+fn texts_that_say_nothing(rt: HostRuntime) -> Result<(), Fail> {
+    let mut out = String::new(rt.alloc());
+    add_said(&mut out, rt.alloc(), b"")?;
+    add_said(&mut out, rt.alloc(), b"\n")?;
+    add_said(&mut out, rt.alloc(), b"# a")?;
+    add_said(&mut out, rt.alloc(), b"\r\n \t\n")?;
+    assert_eq!(rt; out.as_str(), NOTHING_SAID);
     Ok(())
 }

@@ -3,6 +3,7 @@ ghost use Rattle.std.specs.Prelude.{◌≡◌, List, IfOk};
 ghost use Rattle.paje_lines.specs.EventLine.{EventLine};
 ghost use Rattle.paje_model.specs.StandsFor.{IsOpen, StandsFor};
 
+use crate::definitions::add_line;
 use paje_defs::DefTable;
 use paje_lex::tokens;
 use paje_lines::{Effect, ModelFault};
@@ -40,21 +41,13 @@ const DEFINITIONS: &str = "\
 %EventDef PajeAddVariable 19, % Time date, %EndEventDef, \
 %EventDef PajeSubVariable 20, % Time date, %EndEventDef";
 
-fn define(alloc: Global, table: &mut DefTable, line: &[u8]) -> Result<(), Fail> {
-    if line.len() > MAX_TRACE_LINE {
-        return Err(Fail::from("a long line"));
-    }
-    let read = tokens(alloc, line)?;
-    Ok(table.line(1, line, read.as_slice())?)
-}
-
-/// The table of all the definitions.
-pub fn defined(alloc: Global) -> Result<DefTable, Fail> {
-    let mut table = DefTable::new(alloc);
+/// Tells them to a table.
+pub fn define_all(alloc: Global, table: &mut DefTable) -> Result<(), Fail> {
+    let mut out = String::new(alloc);
     for line in DEFINITIONS.split(", ") {
-        define(alloc, &mut table, line.as_bytes())?;
+        add_line(&mut out, alloc, table, line.as_bytes())?;
     }
-    Ok(table)
+    Ok(())
 }
 
 /// What entities answer to the `n`th line of their text.
@@ -87,7 +80,6 @@ pub fn answer(
     }
 }
 
-/// Adds an answer as rows write it, behind a blank.
 pub fn add_answer(out: &mut String, answer: Result<Effect, ModelFault>) -> Result<(), Fail> {
     match answer {
         Ok(effect) => write!(out, " {effect:?}")?,

@@ -2,13 +2,17 @@
 use std::test::Fail;
 use trace_base::{Container, LinkEvent, Name, TraceText, Track, TrackStream};
 
-fn text_of(name: &Name) -> Result<&str, Fail> {
-    Ok(str::from_utf8(name.as_bytes())?)
+/// Bytes as a text.
+pub fn text_of(bytes: &[u8]) -> &str {
+    match str::from_utf8(bytes) {
+        Ok(text) => text,
+        Err(_) => "(no text)",
+    }
 }
 
 fn add_containers(out: &mut String, containers: &[Container]) -> Result<(), Fail> {
     for container in containers {
-        let name = text_of(&container.name)?;
+        let name = text_of(container.name.as_bytes());
         writeln!(
             out,
             "container {} {} {name}",
@@ -21,7 +25,7 @@ fn add_containers(out: &mut String, containers: &[Container]) -> Result<(), Fail
 /// Adds a line for each name, with what it names.
 pub fn add_names(out: &mut String, sort: &str, names: &[Name]) -> Result<(), Fail> {
     for name in names {
-        let name = text_of(name)?;
+        let name = text_of(name.as_bytes());
         writeln!(out, "{sort} {name}")?;
     }
     Ok(())
@@ -47,7 +51,7 @@ pub fn add_streams(out: &mut String, streams: &[TrackStream]) -> Result<(), Fail
 pub fn add_links(out: &mut String, links: &[LinkEvent]) -> Result<(), Fail> {
     for link in links {
         let way = if link.starts { "send" } else { "receive" };
-        let key = text_of(&link.key)?;
+        let key = text_of(link.key.as_bytes());
         writeln!(
             out,
             "{way} {} {key} {} {} {}",
