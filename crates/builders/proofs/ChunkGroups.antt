@@ -1,6 +1,11 @@
 -- A chunk of items as one item.
-use Rattle.std.proofs.Common.{◌≡◌, ℕ, ◌<◌, List, [], ◌∷◌, map, length, suc, Result, refl, sym, ap, subst}
-use Rattle.std.proofs.Common.{arith, get_or, ◌∙◌, append-nil}
+use Rattle.std.proofs.Common.{◌≡◌, ℕ, ◌<◌, ◌≤◌, List, [], ◌∷◌, map, length, suc, Result, refl, sym, ap, subst}
+use Rattle.std.proofs.Common.{arith, get_or, ◌∙◌, append-nil, ◌+◌, Option, Ok, Err, IfOk, IfErr}
+use Rattle.std.proofs.lemmas.List.{length-map}
+use Rattle.trace_base.specs.Outside.{Told}
+use Rattle.trace_base.proofs.Telling.{told_as, told_same}
+use Rattle.node_key.specs.Tree.{nodes}
+use Rattle.hall_trait.specs.Answers.{AddsNoWork, AddsWork}
 use Rattle.node_key.specs.Bound.{group, start_of, stop_of}
 use Rattle.node_key.specs.Items.{FitBetween, node}
 use Rattle.hall_history.specs.Seat.{ExchangesStakes, Seat}
@@ -9,9 +14,10 @@ use Rattle.node_key.specs.declared.item.Item.{Item}
 use Rattle.call_tree.proofs.Fits.{FitBetween-parts, stop_of-last_end}
 use Rattle.hall_trait.specs.declared.answers.HallFault.{HallFault}
 use Rattle.builders.specs.Built.{StoredItem, built, items_in, stake_on, stakes_held}
-use Rattle.builders.specs.Builds.{BuildsItem, HoldsBetween}
+use Rattle.builders.specs.Builds.{BuildsItem, HoldsBetween, WorkOfNodes, nodes_in}
 use Rattle.builders.specs.declared.built.BuiltItem.{BuiltItem}
 use Rattle.builders.proofs.Bags.{exchanges-none}
+use Rattle.builders.proofs.CountingNodes.{grows-group, nodes-node, nodes_in-cons}
 
 -- a chunk of one item is that item
 pub one_item : (seat : Seat) (start end : ℕ) (chunk : List BuiltItem) (stored : List StoredItem)
@@ -81,3 +87,36 @@ group_built old new start stop chunk stored answer are is-start is-stop several 
     ∙ ap (λ (n : ℕ). let i : Item = record { at = n; tree = node 0 n (stop_of is) is } in i) (sym is-start)
     ∙ ap (λ (n : ℕ). let i : Item = record { at = start; tree = node 0 start n is } in i) (sym is-stop) in
     subst (λ (i : Item). BuildsItem old new (stakes_held stored) i (stakes_held stored) answer) (sym same) h
+
+-- ---- the nodes that it has more than its items
+
+pub one-work : (work : Option ℕ) (chunk : List BuiltItem) (stored : List StoredItem)
+    → chunk ≡ map built stored → length chunk ≡ 1
+    → Told work work
+    (λ was now. now + nodes_in (items_in stored) ≡ was + nodes (group (items_in stored)).tree)
+one-work work chunk stored are e =
+    told_same (λ was now. now + nodes_in (items_in stored) ≡ was + nodes (group (items_in stored)).tree) work
+    work (λ n. ap (λ (k : ℕ). n + k)
+    (single stored (omega (arith, ap length are, length-map stored built, e)))) refl
+  where
+    single : (ss : List StoredItem) → length ss ≡ 1
+        → nodes_in (items_in ss) ≡ nodes (group (items_in ss)).tree
+    single [] h = absurd (omega (arith, h))
+    single (s ∷ []) h = omega (arith, nodes_in-cons s.item [])
+    single (s ∷ t ∷ ss) h = absurd (omega (arith, h))
+
+pub group-work : (was work : Option ℕ) (chunk : List BuiltItem) (stored : List StoredItem)
+    (answer : Result BuiltItem HallFault) → chunk ≡ map built stored → 1 < length chunk
+    → IfOk answer (λ b. AddsWork was work 1) → IfErr answer (λ e. AddsNoWork was work)
+    → WorkOfNodes was work (nodes_in (items_in stored)) (nodes (group (items_in stored)).tree) answer
+group-work was work chunk stored (Ok b) are several adds idle =
+    let is = items_in stored in
+    let more : nodes (group is).tree ≡ nodes_in is + 1 =
+    ap (λ (i : Item). nodes i.tree) (group_over is (omega (arith, several, length-items chunk stored are)))
+    ∙ nodes-node 0 (start_of is) (stop_of is) is in
+    told_as (λ was now. now ≡ was + 1) (λ was now. now + nodes_in is ≡ was + nodes (group is).tree) was work
+    (λ x y p. omega (arith, p, more)) adds
+group-work was work chunk stored (Err e) are several adds idle =
+    let is = items_in stored in
+    told_same (λ was now. now + nodes_in is ≤ was + nodes (group is).tree) was work
+    (λ n. omega (arith, grows-group is)) idle

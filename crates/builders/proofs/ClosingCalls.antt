@@ -1,5 +1,5 @@
 -- Open calls that are closed, that get an item more, or whose stakes are given back.
-use Rattle.std.proofs.Common.{◌≡◌, ℕ, ◌+◌, ◌<◌, ◌≤◌, max, List, [], ◌∷◌, ◌++◌, map, length, drop, Option}
+use Rattle.std.proofs.Common.{◌≡◌, ℕ, ◌+◌, ◌<◌, ◌≤◌, List, [], ◌∷◌, ◌++◌, map, length, drop, Option}
 use Rattle.std.proofs.Common.{Ok, All, sym, ap, subst, arith, ◌∙◌, get_or}
 use Rattle.std.proofs.lemmas.List.{map-append}
 use Rattle.list_lemmas.proofs.Maps.{map_next}
@@ -8,25 +8,24 @@ use Rattle.node_key.specs.Items.{FitBetween, node}
 use Rattle.hall_history.specs.Seat.{ExchangesStakes, Seat}
 use Rattle.node_key.specs.Stakes.{HasStakes, stake}
 use Rattle.node_key.specs.declared.stake.Stake.{Stake}
-use Rattle.node_key.specs.Tree.{height}
+use Rattle.node_key.specs.Tree.{height, nodes}
 use Rattle.node_key.specs.declared.item.Item.{Item}
 use Rattle.node_key.specs.declared.limits.TheConstants.{HEIGHT_BOUND}
 use Rattle.trace_base.specs.declared.limits.TheConstants.{MAX_TIME}
-use Rattle.trace_base.proofs.Telling.{told_then}
+use Rattle.trace_base.specs.Outside.{Told}
+use Rattle.trace_base.proofs.Telling.{told_as, told_then}
+use Rattle.hall_trait.specs.Answers.{AddsWork}
 use Rattle.call_tree.specs.Passing.{closed_item}
 use Rattle.call_tree.proofs.Fits.{FitBetween-bound, FitBetween-lower, FitBetween-upper}
 use Rattle.call_tree.proofs.Fits.{low_bound}
-use Rattle.call_tree.proofs.TreeBounds.{some_bound}
 use Rattle.builders.specs.Built.{StoredItem, items_in, stake_on, stakes_held}
-use Rattle.builders.specs.Builds.{AddsWorkUpTo, BuildsItem, BuildsItems, Holds, HoldsBetween, MayBeBound}
-use Rattle.builders.specs.Builds.{WorkPaidBy}
+use Rattle.builders.specs.Builds.{BuildsItem, BuildsItems, Holds, HoldsBetween, MayBeBound, WorkOfNodes}
+use Rattle.builders.specs.Builds.{nodes_in}
 use Rattle.builders.specs.Calls.{HoldsCall, HoldsWith, StoredCall, calls_stakes, open_call, passed}
 use Rattle.builders.specs.declared.built.BuiltItem.{BuiltItem}
 use Rattle.builders.specs.declared.built.OpenCall.{OpenCall}
 use Rattle.builders.proofs.Bags.{exchanges-among, exchanges-then, has-among, has-given}
-use Rattle.builders.proofs.ChunkGroups.{length-items}
-use Rattle.std.proofs.Common.{◌⊎◌, inl, inr}
-use Rattle.std.proofs.lemmas.Bool.{cases_lt}
+use Rattle.builders.proofs.CountingNodes.{nodes-node}
 
 -- ---- a call that is closed
 
@@ -89,34 +88,46 @@ bounded-held old now after innermost stop call bounded slice h e b kept = record
       (has-given old now (stakes_held call.stored) (stakes_held b.0) h.stakes b.3) kept;
 }
 
-pub some-bounded : (old now : Seat) (innermost : OpenCall) (stop : ℕ) (call : StoredCall)
-    (bounded : List BuiltItem) → HoldsCall old innermost stop call
-    → (b : BuildsItems old now (stakes_held call.stored) (bound (items_in call.stored)) [] (Ok bounded))
-    → 0 < length innermost.items → 0 < length bounded
-some-bounded old now innermost stop call bounded h b some =
-    omega (
-      arith,
-      length-items bounded b.0 b.1,
-      ap length b.2,
-      some_bound (items_in call.stored)
-          (omega (
-            arith,
-            some,
-            length-items innermost.items call.stored
-                (ap (λ (c : OpenCall). c.items) h.are),
-          )),
-    )
+-- the nodes that the closed call has more than its items
+closed-nodes : (call : StoredCall) (stop : ℕ)
+    → nodes (closed_item (passed call) stop).tree ≡ nodes_in (bound (items_in call.stored)) + 1
+closed-nodes call stop = nodes-node call.func call.start stop (bound (items_in call.stored))
 
-pub paid-close : (was work work' : Option ℕ) (first left : ℕ) → (0 < first → 0 < left)
-    → WorkPaidBy was work first left → AddsWorkUpTo work work' 1 → AddsWorkUpTo was work' (max 1 first)
-paid-close was work work' first left some =
-    told_then (λ was now. now + left ≤ was + first) (λ was now. now ≤ was + 1)
-    (λ was now. now ≤ was + max 1 first)
-    was work work' (λ x y z p q. within x y z p q (cases_lt 0 first))
-  where
-    within : (x y z : ℕ) → y + left ≤ x + first → z ≤ y + 1 → (0 < first) ⊎ (first ≤ 0) → z ≤ x + max 1 first
-    within x y z p q (inl h) = omega (arith, p, q, some h)
-    within x y z p q (inr h) = omega (arith, p, q, h)
+pub closed-work : (was work work' : Option ℕ) (call : StoredCall) (stop : ℕ) (item : BuiltItem)
+    → Told was work (λ was now. now + nodes_in (items_in call.stored)
+    ≡ was + nodes_in (bound (items_in call.stored))) → AddsWork work work' 1
+    → WorkOfNodes was work' (nodes_in (items_in call.stored)) (nodes (closed_item (passed call) stop).tree)
+    (Ok item)
+closed-work was work work' call stop item =
+    told_then (λ was now. now + nodes_in (items_in call.stored)
+    ≡ was + nodes_in (bound (items_in call.stored))) (λ was now. now ≡ was + 1)
+    (λ was now. now + nodes_in (items_in call.stored) ≡ was + nodes (closed_item (passed call) stop).tree) was
+    work work' (λ x y z p q. omega (arith, p, q, closed-nodes call stop))
+
+-- where a group of its items is refused
+pub unbound-work : (was work : Option ℕ) (call : StoredCall) (stop : ℕ)
+    → Told was work (λ was now. now + nodes_in (items_in call.stored)
+    ≤ was + nodes_in (bound (items_in call.stored)))
+    → Told was work (λ was now. now + nodes_in (items_in call.stored)
+    ≤ was + nodes (closed_item (passed call) stop).tree)
+unbound-work was work call stop =
+    told_as (λ was now. now + nodes_in (items_in call.stored) ≤ was + nodes_in (bound (items_in call.stored)))
+    (λ was now. now + nodes_in (items_in call.stored) ≤ was + nodes (closed_item (passed call) stop).tree) was
+    work (λ x y p. omega (arith, p, closed-nodes call stop))
+
+-- and where its node is
+pub unclosed-work : (was work work' : Option ℕ) (call : StoredCall) (stop : ℕ)
+    → Told was work (λ was now. now + nodes_in (items_in call.stored)
+    ≡ was + nodes_in (bound (items_in call.stored))) → work' ≡ work
+    → Told was work' (λ was now. now + nodes_in (items_in call.stored)
+    ≤ was + nodes (closed_item (passed call) stop).tree)
+unclosed-work was work work' call stop told same =
+    subst (λ (w : Option ℕ). Told was w (λ was now. now + nodes_in (items_in call.stored)
+    ≤ was + nodes (closed_item (passed call) stop).tree)) (sym same)
+    (told_as (λ was now. now + nodes_in (items_in call.stored)
+    ≡ was + nodes_in (bound (items_in call.stored)))
+    (λ was now. now + nodes_in (items_in call.stored) ≤ was + nodes (closed_item (passed call) stop).tree) was
+    work (λ x y p. omega (arith, p, closed-nodes call stop)) told)
 
 -- ---- a call with an item more
 

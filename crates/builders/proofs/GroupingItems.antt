@@ -1,7 +1,7 @@
 -- Items under way to their groups, in one list: the groups at its front, and the items that are left behind.
 use Rattle.std.proofs.Common.{◌≡◌, ℕ, ◌+◌, ◌-◌, ◌<◌, ◌≤◌, min, List, [], ◌∷◌, ◌++◌, map, length, take, drop}
 use Rattle.std.proofs.Common.{Option, refl, sym, ap, subst, arith, set, ◌∙◌, append-nil, append_assoc}
-use Rattle.std.proofs.Common.{take-append-drop, Some, None, Ok}
+use Rattle.std.proofs.Common.{take-append-drop, Ok, Err}
 use Rattle.std.proofs.lemmas.List.{length-set}
 use Rattle.std.proofs.lemmas.List.{drop-drop, drop-map, drop-set-lt, length-drop, length-map}
 use Rattle.std.proofs.lemmas.List.{length-take, map-append, take-map, take_more_set, nil_from_length}
@@ -13,24 +13,30 @@ use Rattle.node_key.specs.declared.stake.Stake.{Stake}
 use Rattle.node_key.specs.declared.item.Item.{Item}
 use Rattle.trace_base.specs.Outside.{Told}
 use Rattle.trace_base.specs.declared.limits.TheConstants.{MAX_TIME}
-use Rattle.trace_base.proofs.Telling.{told_then}
-use Rattle.call_tree.proofs.Chunks.{grouped-none}
+use Rattle.trace_base.proofs.Telling.{told_as, told_same, told_then}
+use Rattle.node_key.specs.Tree.{nodes}
+use Rattle.call_tree.proofs.Chunks.{grouped-none, grouped-some}
 use Rattle.call_tree.proofs.Grouping.{Grouping, Grouping-more, Grouping-next}
 use Rattle.builders.specs.Built.{StoredItem, built, items_in, stake_on, stakes_held}
-use Rattle.builders.specs.Builds.{BuildsItem, BuildsItems, Holds, HoldsBetween, WorkPaidBy}
+use Rattle.builders.specs.Builds.{BuildsItem, BuildsItems, Holds, HoldsBetween, WorkOfNodes}
+use Rattle.builders.specs.Builds.{nodes_in}
+use Rattle.hall_trait.specs.declared.answers.HallFault.{HallFault}
+use Rattle.builders.proofs.CountingNodes.{grows-grouped, nodes_in-append, nodes_in-cons, nodes_in-cut}
+use Rattle.builders.proofs.CountingNodes.{nodes_in-push}
 use Rattle.builders.specs.declared.built.BuiltItem.{BuiltItem}
 use Rattle.builders.proofs.Bags.{exchanges-among, exchanges-none, exchanges-then, has-among, has-given}
 
 -- the groups, which are built, and the items that are left
-pub record Split (old now : Seat) (stored : List StoredItem) (list : List BuiltItem) (groups from : ℕ) : Type
-    0
-  where
-    pub done : List StoredItem
-    pub left : List StoredItem
-    pub front : take groups list ≡ map built done
-    pub back : drop from list ≡ map built left
-    pub grouping : Grouping (items_in stored) (items_in done) (items_in left)
-    pub exchanged : ExchangesStakes old now (stakes_held stored) (stakes_held done ++ stakes_held left)
+pub record Split (old now : Seat) (was work : Option ℕ) (stored : List StoredItem) (list : List BuiltItem)
+    (groups from : ℕ) : Type 0 where
+  pub done : List StoredItem
+  pub left : List StoredItem
+  pub front : take groups list ≡ map built done
+  pub back : drop from list ≡ map built left
+  pub grouping : Grouping (items_in stored) (items_in done) (items_in left)
+  pub exchanged : ExchangesStakes old now (stakes_held stored) (stakes_held done ++ stakes_held left)
+  pub counted : Told was work (λ was now. now + nodes_in (items_in stored)
+      ≡ was + (nodes_in (items_in done) + nodes_in (items_in left)))
 
 -- so it is for all items that the seat may hold, and there is room for one group more
 pub record GroupingItems (old now : Seat) (was_work work : Option ℕ) (items list : List BuiltItem)
@@ -40,24 +46,21 @@ pub record GroupingItems (old now : Seat) (was_work work : Option ℕ) (items li
   pub front : groups ≤ from
   pub back : from ≤ number
   pub parts : (stored : List StoredItem) → HoldsBetween old 0 MAX_TIME items stored
-      → Split old now stored list groups from
-  pub paid : Told was_work work (λ was now. now + groups + (number - from) ≤ was + length items)
+      → Split old now was_work work stored list groups from
 
 -- ---- the start
 
-same_work : (work : Option ℕ) (n : ℕ) → Told work work (λ was now. now + 0 + (n - 0) ≤ was + n)
-same_work (Some w) n = omega arith
-same_work None n = tt
-
-Split-start : (old : Seat) (items : List BuiltItem) (stored : List StoredItem)
-    → HoldsBetween old 0 MAX_TIME items stored → Split old old stored items 0 0
-Split-start old items stored h = record {
+Split-start : (old : Seat) (work : Option ℕ) (items : List BuiltItem) (stored : List StoredItem)
+    → HoldsBetween old 0 MAX_TIME items stored → Split old old work work stored items 0 0
+Split-start old work items stored h = record {
   done = [];
   left = stored;
   front = refl;
   back = h.are;
   grouping = record { whole = refl; placed = h.placed; low = h.low };
   exchanged = exchanges-none old old (stakes_held stored) refl;
+  counted = told_same (λ was now. now + nodes_in (items_in stored)
+      ≡ was + (nodes_in (items_in []) + nodes_in (items_in stored))) work work (λ n. omega arith) refl;
 }
 
 pub GroupingItems-start : (old : Seat) (work : Option ℕ) (items list : List BuiltItem) (number : ℕ)
@@ -67,10 +70,8 @@ GroupingItems-start old work items list number e n = record {
   size = ap length e ∙ sym n;
   front = omega arith;
   back = omega arith;
-  parts = λ stored h. subst (λ (bs : List BuiltItem). Split old old stored bs 0 0) (sym e)
-      (Split-start old items stored h);
-  paid = subst (λ (m : ℕ). Told work work (λ was now. now + 0 + (m - 0) ≤ was + length items))
-      (sym n) (same_work work (length items));
+  parts = λ stored h. subst (λ (bs : List BuiltItem). Split old old work work stored bs 0 0) (sym e)
+      (Split-start old work items stored h);
 }
 
 -- ---- the next chunk
@@ -100,12 +101,29 @@ stakes_cut left =
     ap (λ (ss : List StoredItem). stakes_held ss) (sym (take-append-drop 8 left))
     ∙ map-append stake_on (take 8 left) (drop 8 left)
 
+-- their nodes
+nodes_cut : (left : List StoredItem)
+    → nodes_in (items_in left) ≡ nodes_in (items_in (take 8 left)) + nodes_in (items_in (drop 8 left))
+nodes_cut left =
+    omega (
+      arith,
+      nodes_in-cut (items_in left),
+      ap nodes_in (take-map (λ (x : StoredItem). x.item) 8 left),
+      ap nodes_in (drop-map (λ (x : StoredItem). x.item) 8 left),
+    )
+
+nodes_pushed : (done : List StoredItem) (one : StoredItem)
+    → nodes_in (items_in (done ++ one ∷ [])) ≡ nodes_in (items_in done) + nodes one.item.tree
+nodes_pushed done one =
+    ap nodes_in (map-append (λ (x : StoredItem). x.item) done (one ∷ []))
+    ∙ nodes_in-push (items_in done) one.item
+
 -- what is held of the chunk
-pub Split-chunk : (old now : Seat) (items list chunk : List BuiltItem) (stored : List StoredItem)
-    (groups from : ℕ) → HoldsBetween old 0 MAX_TIME items stored
-    → (s : Split old now stored list groups from) → chunk ≡ take 8 (drop from list)
+pub Split-chunk : (old now : Seat) (was work : Option ℕ) (items list chunk : List BuiltItem)
+    (stored : List StoredItem) (groups from : ℕ) → HoldsBetween old 0 MAX_TIME items stored
+    → (s : Split old now was work stored list groups from) → chunk ≡ take 8 (drop from list)
     → HoldsBetween now 0 MAX_TIME chunk (take 8 s.left)
-Split-chunk old now items list chunk stored groups from h s e =
+Split-chunk old now was work items list chunk stored groups from h s e =
     let is_chunk = Grouping-next (items_in stored) (items_in s.done) (items_in s.left)
     (items_in (take 8 s.left))
     s.grouping (sym (take-map (λ (x : StoredItem). x.item) 8 s.left)) in
@@ -121,15 +139,18 @@ Split-chunk old now items list chunk stored groups from h s e =
     }
 
 -- one group more
-Split-more : (old now new : Seat) (list chunk : List BuiltItem) (stored : List StoredItem)
-    (number groups from until : ℕ) (b : BuiltItem)
-    → (s : Split old now stored list groups from) → length list ≡ number → groups ≤ from → from < number
+Split-more : (old now new : Seat) (was work work' : Option ℕ) (list chunk : List BuiltItem)
+    (stored : List StoredItem) (number groups from until : ℕ) (b : BuiltItem)
+    → (s : Split old now was work stored list groups from) → length list ≡ number → groups ≤ from
+    → from < number
     → until ≡ from + min 8 (number - from)
     → (n : ℕ) × (b ≡ built (record { item = group (items_in (take 8 s.left)); number = n }))
     × ExchangesStakes now new (stakes_held (take 8 s.left))
     (stake n (group (items_in (take 8 s.left))).tree ∷ [])
-    → Split old new stored (set list groups b) (groups + 1) until
-Split-more old now new list chunk stored number groups from until b s size far some e g =
+    → WorkOfNodes {X = BuiltItem} work work' (nodes_in (items_in (take 8 s.left)))
+    (nodes (group (items_in (take 8 s.left))).tree) (Ok b)
+    → Split old new was work' stored (set list groups b) (groups + 1) until
+Split-more old now new was work work' list chunk stored number groups from until b s size far some e g paid =
     let one : StoredItem = record { item = group (items_in (take 8 s.left)); number = g.0 } in
     let left : length s.left ≡ number - from = omega (
       arith,
@@ -165,22 +186,13 @@ Split-more old now new list chunk stored number groups from until b s size far s
           (sym (stakes_cut s.left))
           (exchanges-among now new (stakes_held s.done) (stakes_held (take 8 s.left)) (stake_on one ∷ [])
           (stakes_held (drop 8 s.left)) g.2)));
+      counted = told_then (λ was now. now + nodes_in (items_in stored)
+          ≡ was + (nodes_in (items_in s.done) + nodes_in (items_in s.left)))
+          (λ was now. now + nodes_in (items_in (take 8 s.left)) ≡ was + nodes one.item.tree)
+          (λ was now. now + nodes_in (items_in stored)
+          ≡ was + (nodes_in (items_in (s.done ++ one ∷ [])) + nodes_in (items_in (drop 8 s.left)))) was work
+          work' (λ x y z p q. omega (arith, p, q, nodes_cut s.left, nodes_pushed s.done one)) s.counted paid;
     }
-
-length-chunk : (list chunk : List BuiltItem) (number from until : ℕ) → length list ≡ number
-    → until ≡ from + min 8 (number - from) → from ≤ number → chunk ≡ take 8 (drop from list)
-    → length chunk ≡ until - from
-length-chunk list chunk number from until size e h is =
-    omega (arith, size, e, h, ap length is, length-take 8 (drop from list), length-drop from list)
-
-paid_more : (groups from until number first few : ℕ) (was work work' : Option ℕ)
-    → few ≡ until - from → from ≤ until → until ≤ number
-    → Told was work (λ was now. now + groups + (number - from) ≤ was + first) → WorkPaidBy work work' few 1
-    → Told was work' (λ was now. now + (groups + 1) + (number - until) ≤ was + first)
-paid_more groups from until number first few was work work' e h k =
-    told_then (λ was now. now + groups + (number - from) ≤ was + first) (λ was now. now + 1 ≤ was + few)
-    (λ was now. now + (groups + 1) + (number - until) ≤ was + first) was work work'
-    (λ x y z p q. omega (arith, e, h, k, p, q))
 
 pub GroupingItems-more : (old now new : Seat) (was work work' : Option ℕ)
     (items list list' chunk : List BuiltItem) (number groups from until : ℕ) (b : BuiltItem)
@@ -188,7 +200,9 @@ pub GroupingItems-more : (old now new : Seat) (was work work' : Option ℕ)
     → until ≡ from + min 8 (number - from) → chunk ≡ take 8 (drop from list) → list' ≡ set list groups b
     → ((stored : List StoredItem) → HoldsBetween now 0 MAX_TIME chunk stored
     → BuildsItem now new (stakes_held stored) (group (items_in stored)) (stakes_held stored) (Ok b))
-    → WorkPaidBy work work' (length chunk) 1
+    → ((stored : List StoredItem) → HoldsBetween now 0 MAX_TIME chunk stored
+    → WorkOfNodes {X = BuiltItem} work work' (nodes_in (items_in stored))
+    (nodes (group (items_in stored)).tree) (Ok b))
     → GroupingItems old new was work' items list' number (groups + 1) until
 GroupingItems-more old now new was work work' items list list' chunk number groups from until b g some e is
     is' built
@@ -199,12 +213,9 @@ GroupingItems-more old now new was work work' items list list' chunk number grou
       front = omega (arith, g.front, e, some);
       back = omega (arith, e, some);
       parts = λ stored h. let s = g.parts stored h in
-          Split-more old now new list chunk stored number groups from until b s g.size g.front some e
-          (built (take 8 s.left) (Split-chunk old now items list chunk stored groups from h s is));
-      paid = paid_more groups from until number (length items) (length chunk) was work work'
-          (length-chunk list chunk number from until g.size e g.back is) (omega (arith, e))
-          (omega (arith, e, some))
-          g.paid paid;
+          let held = Split-chunk old now was work items list chunk stored groups from h s is in
+          Split-more old now new was work work' list chunk stored number groups from until b s g.size g.front
+          some e (built (take 8 s.left) held) (paid (take 8 s.left) held);
     } in
     subst (λ (l : List BuiltItem). GroupingItems old new was work' items l number (groups + 1) until)
     (sym is') here
@@ -237,6 +248,80 @@ GroupingItems-end old now was work items list answer number groups from g none i
           (stakes_held s.done ++ stakes_held ss)) nothing s.exchanged),
     )
 
+-- the nodes of the groups so far and of what is left are at most those of all groups
+grouped-nodes : (all done left : List Item) → done ++ grouped left ≡ grouped all
+    → nodes_in (grouped all) ≡ nodes_in done + nodes_in (grouped left)
+grouped-nodes all done left whole = ap nodes_in (sym whole) ∙ nodes_in-append done (grouped left)
+
+pub GroupingItems-work : (old now : Seat) (was work : Option ℕ) (items list answer : List BuiltItem)
+    (number groups from : ℕ) → GroupingItems old now was work items list number groups from → number ≤ from
+    → (stored : List StoredItem) → HoldsBetween old 0 MAX_TIME items stored
+    → WorkOfNodes was work (nodes_in (items_in stored)) (nodes_in (grouped (items_in stored))) (Ok answer)
+GroupingItems-work old now was work items list answer number groups from g none stored h =
+    let s = g.parts stored h in
+    let nothing : s.left ≡ [] = nil_from_length s.left (omega (
+      arith,
+      none,
+      g.size,
+      length-drop from list,
+      ap length s.back,
+      length-map s.left built,
+    )) in
+    let left : items_in s.left ≡ [] = ap items_in nothing in
+    told_as (λ was now. now + nodes_in (items_in stored)
+    ≡ was + (nodes_in (items_in s.done) + nodes_in (items_in s.left)))
+    (λ was now. now + nodes_in (items_in stored) ≡ was + nodes_in (grouped (items_in stored))) was work
+    (λ x y p. omega (
+      arith,
+      p,
+      ap nodes_in left,
+      ap nodes_in (grouped-none (items_in s.left) left),
+      grouped-nodes (items_in stored) (items_in s.done) (items_in s.left) s.grouping.whole,
+    )) s.counted
+
+pub refused-work : (old now : Seat) (was work work' : Option ℕ) (items list chunk : List BuiltItem)
+    (number groups from : ℕ) (e : HallFault)
+    → GroupingItems old now was work items list number groups from → from < number
+    → chunk ≡ take 8 (drop from list)
+    → ((stored : List StoredItem) → HoldsBetween now 0 MAX_TIME chunk stored
+    → WorkOfNodes {X = BuiltItem} work work' (nodes_in (items_in stored))
+    (nodes (group (items_in stored)).tree) (Err e))
+    → (stored : List StoredItem) → HoldsBetween old 0 MAX_TIME items stored
+    → Told was work'
+    (λ was now. now + nodes_in (items_in stored) ≤ was + nodes_in (grouped (items_in stored)))
+refused-work old now was work work' items list chunk number groups from e g some is idle stored h =
+    let s = g.parts stored h in
+    let part = take 8 s.left in
+    let left = items_in s.left in
+    let here = idle part (Split-chunk old now was work items list chunk stored groups from h s is) in
+    let there : 0 < length left = omega (
+      arith,
+      some,
+      g.size,
+      length-drop from list,
+      ap length s.back,
+      length-map s.left built,
+      length-map s.left (λ (x : StoredItem). x.item),
+    ) in
+    let first : nodes (group (items_in part)).tree ≡ nodes (group (take 8 left)).tree =
+    ap (λ (is : List Item). nodes (group is).tree) (sym (take-map (λ (x : StoredItem). x.item) 8 s.left)) in
+    told_then (λ was now. now + nodes_in (items_in stored)
+    ≡ was + (nodes_in (items_in s.done) + nodes_in left))
+    (λ was now. now + nodes_in (items_in part) ≤ was + nodes (group (items_in part)).tree)
+    (λ was now. now + nodes_in (items_in stored) ≤ was + nodes_in (grouped (items_in stored))) was work work'
+    (λ x y z p q. omega (
+      arith,
+      p,
+      q,
+      first,
+      nodes_cut s.left,
+      ap nodes_in (drop-map (λ (x : StoredItem). x.item) 8 s.left),
+      grows-grouped (drop 8 left),
+      ap nodes_in (grouped-some left there),
+      nodes_in-cons (group (take 8 left)) (grouped (drop 8 left)),
+      grouped-nodes (items_in stored) (items_in s.done) left s.grouping.whole,
+    )) s.counted here
+
 -- ---- a fault: the stakes on the groups are given back, and those on the items that are left
 
 pub refused-front : (old now after : Seat) (was work : Option ℕ) (items list chunk : List BuiltItem)
@@ -252,7 +337,7 @@ pub refused-front : (old now after : Seat) (was work : Option ℕ) (items list c
 refused-front old now after was work items list chunk number groups from g is same stored h =
     let s = g.parts stored h in
     let part = take 8 s.left in
-    let here = same part (Split-chunk old now items list chunk stored groups from h s is) in
+    let here = same part (Split-chunk old now was work items list chunk stored groups from h s is) in
     let among : ExchangesStakes now after (stakes_held s.done ++ stakes_held s.left)
     (stakes_held s.done ++ stakes_held s.left) =
     subst (λ (xs : List Stake). ExchangesStakes now after (stakes_held s.done ++ xs)

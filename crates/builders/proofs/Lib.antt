@@ -2,6 +2,7 @@ pub mod KeyKids
 pub mod Placed
 pub mod Bags
 pub mod Interning
+pub mod CountingNodes
 pub mod ChunkGroups
 pub mod GroupingItems
 pub mod BoundingItems

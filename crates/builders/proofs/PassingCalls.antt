@@ -1,25 +1,21 @@
 -- Open calls whose items are built, over one event more.
-use Rattle.std.proofs.Common.{◌≡◌, ℕ, ◌+◌, ◌≤◌, max, List, [], ◌∷◌, ◌++◌, map, length, Option, Ok, Err}
-use Rattle.std.proofs.Common.{Result, refl, sym, ap, subst, arith, ◌∙◌, append-nil, append_assoc}
-use Rattle.std.proofs.Common.{length-append}
+use Rattle.std.proofs.Common.{◌≡◌, ℕ, List, [], ◌∷◌, ◌++◌, map, Ok, Err}
+use Rattle.std.proofs.Common.{Result, refl, sym, ap, subst, ◌∙◌, append-nil, append_assoc}
 use Rattle.std.proofs.lemmas.Grind.{flat_map-append}
-use Rattle.std.proofs.lemmas.List.{map-append, length-map}
-use Rattle.std.proofs.lemmas.List.Sums.{sum_by-append}
+use Rattle.std.proofs.lemmas.List.{map-append}
 use Rattle.list_lemmas.proofs.Maps.{map_last}
 use Rattle.hall_history.specs.Seat.{ExchangesStakes, Seat}
 use Rattle.node_key.specs.declared.stake.Stake.{Stake}
 use Rattle.node_key.specs.declared.item.Item.{Item}
 use Rattle.trace_base.specs.declared.stream.Event.{Event}
 use Rattle.trace_base.specs.declared.stream.Event.TheVariants.{Enter, Leave}
-use Rattle.trace_base.proofs.Telling.{told_as}
 use Rattle.call_tree.specs.Passing.{closed_item}
 use Rattle.call_tree.specs.declared.pass.Open.{Open}
 use Rattle.hall_trait.specs.declared.answers.HallFault.{HallFault}
-use Rattle.builders.specs.Built.{StoredItem, built, items_in, stake_on, stakes_held}
-use Rattle.builders.specs.Builds.{AddsWorkUpTo, BuildsItem, Holds}
+use Rattle.builders.specs.Built.{StoredItem, items_in, stake_on, stakes_held}
+use Rattle.builders.specs.Builds.{BuildsItem, Holds}
 use Rattle.builders.specs.Calls.{AddsItem, HoldsCall, HoldsCalls, HoldsWith, PassesOn, StoredCall}
-use Rattle.builders.specs.Calls.{WorkOfEvent, answer_number, calls_stakes, open_call, open_number, passed}
-use Rattle.builders.specs.Calls.{with_stored}
+use Rattle.builders.specs.Calls.{calls_stakes, open_call, passed, with_stored}
 use Rattle.builders.specs.declared.built.BuiltItem.{BuiltItem}
 use Rattle.builders.specs.declared.built.OpenCall.{OpenCall}
 use Rattle.builders.proofs.Bags.{exchanges-last, exchanges-none, exchanges-then, has-given, has-last}
@@ -169,44 +165,3 @@ left-passes old now new around' outer item u calls call (Err e) l adds = (
       (append-nil (calls_stakes l.front))
       (exchanges-last now new (calls_stakes l.front) (stakes_held (l.last.stored ++ l.one ∷ [])) [] adds)),
 )
-
--- ---- what an event costs
-
-open_number-more : (calls : List OpenCall) (c : OpenCall)
-    → open_number (calls ++ c ∷ []) ≡ open_number calls + (length c.items + 1)
-open_number-more calls c =
-    omega (arith, sum_by-append (λ (o : OpenCall). length o.items + 1) calls (c ∷ []))
-
-pub paid-leave : (old now new : Seat) (was work work' : Option ℕ) (around around' : List OpenCall)
-    (innermost outer : OpenCall) (item : BuiltItem) (u : ℕ) (calls : List StoredCall) (call : StoredCall)
-    (answer : Result OpenCall HallFault) → (l : Left old now around' outer item u calls call)
-    → AddsItem now new l.last l.one answer → around ≡ around' ++ outer ∷ []
-    → AddsWorkUpTo was work (max 1 (length innermost.items)) → work' ≡ work
-    → WorkOfEvent was work' (open_number around + length innermost.items) (answer_number around' answer)
-paid-leave old now new was work work' around around' innermost outer item u calls call (Err e) l adds is paid
-    same =
-    subst (λ (w : Option ℕ). WorkOfEvent was w (open_number around + length innermost.items) 0) (sym same)
-    (told_as (λ was now. now ≤ was + max 1 (length innermost.items))
-    (λ was now. now + 0 ≤ was + (open_number around + length innermost.items) + 1) was work
-    (λ x y p. omega (arith, p)) paid)
-paid-leave old now new was work work' around around' innermost outer item u calls call (Ok c) l adds is paid
-    same =
-    let last = length-map l.last.stored built in
-    let more : length c.items ≡ length outer.items + 1 =
-    omega (
-      arith,
-      last,
-      ap (λ (o : OpenCall). length o.items) adds.0,
-      ap (λ (o : OpenCall). length o.items) l.held.are,
-      ap length (map-append built l.last.stored (l.one ∷ [])),
-      length-append (map built l.last.stored)
-          (built l.one ∷ []),
-    ) in
-    let open_before : open_number around ≡ open_number around' + (length outer.items + 1) =
-    ap open_number is ∙ open_number-more around' outer in
-    subst (λ (w : Option ℕ). WorkOfEvent was w (open_number around + length innermost.items)
-    (open_number around' + length c.items)) (sym same)
-    (told_as (λ was now. now ≤ was + max 1 (length innermost.items))
-    (λ was now. now + (open_number around' + length c.items)
-    ≤ was + (open_number around + length innermost.items) + 1) was work
-    (λ x y p. omega (arith, p, more, open_before)) paid)

@@ -1,10 +1,9 @@
 -- The numbers that the rooms of a store give, from one moment to the next.
-use Rattle.std.proofs.Common.{◌≡◌, ◌≤◌, ℕ, zero, suc, inl, inr, List, [], ◌∷◌, Option, None, Some, Result, Ok}
-use Rattle.std.proofs.Common.{Err, refl, sym, ap, subst, arith, slice_get}
+use Rattle.std.proofs.Common.{◌≡◌, ◌≤◌, ℕ, zero, suc, inl, inr, List, [], ◌∷◌, Option, None, Some}
+use Rattle.std.proofs.Common.{Err, refl, ap, arith, slice_get}
 use Rattle.std.specs.List.{AllZip}
 use Rattle.shard_core.specs.Interning.{IsSpent}
 use Rattle.shard_core.specs.Room.{Room}
-use Rattle.shard_core.specs.declared.answers.Interned.{Interned}
 use Rattle.node_key.specs.Rooms.{room}
 use Rattle.node_key.specs.declared.key.NodeKey.{NodeKey}
 use Rattle.hall_trait.specs.Answers.{NextsRise}

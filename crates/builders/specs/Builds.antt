@@ -1,16 +1,16 @@
 -- What a builder does to the stakes of a seat.
-use Rattle.std.specs.Prelude.{◌≡◌, ◌≤◌, ◌<◌, ℕ, ◌+◌, ◌-◌, List, [], ◌∷◌, map, length, All, Option, Result, Ok}
-use Rattle.std.specs.Prelude.{Err}
+use Rattle.std.specs.Prelude.{◌≡◌, ◌≤◌, ◌<◌, ℕ, ◌+◌, ◌-◌, List, [], ◌∷◌, map, All, Option, Result, Ok, Err}
+use Rattle.std.specs.Prelude.{sum_by}
 use Rattle.trace_base.specs.Outside.{Told}
 use Rattle.trace_base.specs.declared.limits.TheConstants.{MAX_TIME}
 use Rattle.node_key.specs.Items.{FitBetween}
 use Rattle.hall_history.specs.Seat.{ExchangesStakes, Seat}
 use Rattle.node_key.specs.Stakes.{HasStakes, stake}
 use Rattle.node_key.specs.declared.stake.Stake.{Stake}
-use Rattle.node_key.specs.Tree.{height}
+use Rattle.node_key.specs.Tree.{Tree, height, nodes}
 use Rattle.node_key.specs.declared.item.Item.{Item}
 use Rattle.node_key.specs.declared.limits.TheConstants.{HEIGHT_BOUND, MAX_HEIGHT, MAX_KIDS}
-use Rattle.hall_trait.specs.Answers.{RecordsNone, RecordsUsedUp}
+use Rattle.hall_trait.specs.Answers.{AddsWork, RecordsNone, RecordsUsedUp}
 use Rattle.hall_trait.specs.declared.answers.HallFault.{HallFault}
 use Rattle.hall_trait.specs.declared.answers.HallFault.TheVariants as fault
 use Rattle.builders.specs.Built.{StoredItem, built, items_in, stakes_held}
@@ -56,16 +56,18 @@ BuildRecords old new (Err (fault.Spent v)) = RecordsUsedUp old new v
 BuildRecords old new (Err fault.Memory) = RecordsNone old new
 BuildRecords old new (Err (fault.Full place)) = ⊥
 
--- where the hall counts what this seat did, it grows by at most so much
-abbrev pub AddsWorkUpTo : Option ℕ → Option ℕ → ℕ → Type 0
-AddsWorkUpTo old new n = Told old new (λ was now. now ≤ was + n)
+-- the nodes of the trees of these items, each as often as it stands in them
+abbrev pub nodes_in : List Item → ℕ
+nodes_in items = sum_by (λ i. nodes i.tree) items
 
--- Where the hall counts what this seat did, each node that was interned took the place of several items: of
--- so many at first so many are left.
-abbrev pub WorkPaidBy : Option ℕ → Option ℕ → ℕ → ℕ → Type 0
-WorkPaidBy old new first left = Told old new (λ was now. now + left ≤ was + first)
+-- Trees with so many nodes are made of trees that had so many at first. Where the hall counts what this seat
+-- did, each further node was interned once; on a fault at most these were.
+abbrev pub WorkOfNodes : {X : Type 0} → Option ℕ → Option ℕ → (first made : ℕ) → Result X HallFault → Type 0
+WorkOfNodes old new first made (Ok x) = Told old new (λ was now. now + first ≡ was + made)
+WorkOfNodes old new first made (Err e) = Told old new (λ was now. now + first ≤ was + made)
 
--- how many items an answer has
-abbrev pub items_left : Result (List BuiltItem) HallFault → ℕ
-items_left (Ok bs) = length bs
-items_left (Err e) = 0
+-- Where the hall counts what this seat did, each node of the tree was interned as often as it stands there.
+-- On a fault at most these were.
+abbrev pub WorkOfTree : Option ℕ → Option ℕ → Tree → Result ℕ HallFault → Type 0
+WorkOfTree old new t (Ok n) = AddsWork old new (nodes t)
+WorkOfTree old new t (Err e) = Told old new (λ was now. now ≤ was + nodes t)

@@ -1,8 +1,6 @@
 -- Open calls whose items are built in a hall, and what a builder does to them.
-use Rattle.std.specs.Prelude.{◌≡◌, ◌≤◌, ℕ, ◌+◌, List, [], ◌∷◌, ◌++◌, map, length, sum_by, Option, Result, Ok}
-use Rattle.std.specs.Prelude.{Err}
+use Rattle.std.specs.Prelude.{◌≡◌, ℕ, ◌+◌, List, [], ◌∷◌, ◌++◌, map, sum_by, Option, Result, Ok, Err}
 use Rattle.std.specs.List.{flat_map}
-use Rattle.trace_base.specs.Outside.{Told}
 use Rattle.trace_base.specs.declared.stream.Event.{Event}
 use Rattle.hall_history.specs.Seat.{ExchangesStakes, Seat}
 use Rattle.node_key.specs.Stakes.{HasStakes, stake}
@@ -12,6 +10,7 @@ use Rattle.call_tree.specs.Passing.{CanClose, MayCome, PassesEvent}
 use Rattle.call_tree.specs.declared.pass.Open.{Open}
 use Rattle.hall_trait.specs.declared.answers.HallFault.{HallFault}
 use Rattle.builders.specs.Built.{StoredItem, built, items_in, stakes_held}
+use Rattle.builders.specs.Builds.{WorkOfNodes, nodes_in}
 use Rattle.builders.specs.declared.built.BuiltItem.{BuiltItem}
 use Rattle.builders.specs.declared.built.OpenCall.{OpenCall}
 
@@ -78,18 +77,16 @@ PassesOn old new calls call event around (Err e) = (calls' : List StoredCall)
     × (around ≡ map open_call calls')
     × ExchangesStakes old new (calls_stakes calls ++ stakes_held call.stored) (calls_stakes calls')
 
--- how many calls are open round the innermost one, and how many items lie in them
-abbrev pub open_number : List OpenCall → ℕ
-open_number calls = sum_by (λ c. length c.items + 1) calls
+-- the nodes of the trees that lie in open calls, of which the innermost stands by itself
+abbrev pub nodes_open : List Open → Open → ℕ
+nodes_open around innermost = sum_by (λ c. nodes_in c.items) around + nodes_in innermost.items
 
--- how many there are with the innermost one, which isn't counted itself, of an answer
-abbrev pub answer_number : List OpenCall → Result OpenCall HallFault → ℕ
-answer_number around (Ok now) = open_number around + length now.items
-answer_number around (Err e) = 0
-
--- where the hall counts what this seat did, one event pays for one node, open call or item more
-abbrev pub WorkOfEvent : Option ℕ → Option ℕ → ℕ → ℕ → Type 0
-WorkOfEvent old new before after = Told old new (λ was now. now + after ≤ was + before + 1)
+-- where the hall counts what this seat did, what lies in the open calls after the event and didn't before was
+-- interned, node by node
+abbrev pub WorkOfEvent : Option ℕ → Option ℕ → List Open → Open → Event → Result OpenCall HallFault → Type 0
+WorkOfEvent old new around innermost event answer = (around' : List Open) (innermost' : Open)
+    → PassesEvent around innermost event around' innermost'
+    → WorkOfNodes old new (nodes_open around innermost) (nodes_open around' innermost') answer
 
 -- On Ok there is a new stake on the node of this number, which stands for the tree. On a fault all stakes are
 -- as before.

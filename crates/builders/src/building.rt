@@ -1,9 +1,9 @@
-ghost use Rattle.std.specs.Prelude.{◌≡◌, ◌+◌, ℕ, [], ◌∷◌, List, length, max};
+ghost use Rattle.std.specs.Prelude.{◌≡◌, ℕ, [], ◌∷◌, List, map};
 ghost use Rattle.builders.specs.Spending.{BuildSpends};
 ghost use Rattle.hall_trait.specs.Answers.{NextsRise};
-ghost use Rattle.builders.specs.Builds.{AddsWorkUpTo, BuildRecords};
+ghost use Rattle.builders.specs.Builds.{BuildRecords, WorkOfTree};
 ghost use Rattle.builders.specs.Calls.{BuildsTree, HoldsCalls, PassesOn, StoredCall, WorkOfEvent};
-ghost use Rattle.builders.specs.Calls.{answer_number, open_number};
+ghost use Rattle.builders.specs.Calls.{passed};
 ghost use Rattle.node_key.specs.Trees.{tree};
 ghost use Rattle.trace_base.specs.Stream.{IsLegal};
 ghost use Rattle.trace_base.specs.declared.stream.Event.TheVariants.{Enter, Leave};
@@ -36,8 +36,10 @@ fn enter<R: Wait, H: Hall>(
     ensures records { BuildRecords (H.used_up hall.old) (H.used_up hall.new) result }
     ensures nexts { NextsRise (H.rooms hall.old) (H.rooms hall.new) }
     ensures spent { BuildSpends (H.rooms hall.new) result }
-    ensures work { WorkOfEvent (H.work hall.old) (H.work hall.new)
-        (open_number around.old.items + length innermost.items) (answer_number around.new.items result) }
+    ensures work { (calls : List StoredCall) (call : StoredCall)
+        → HoldsCalls (H.seat hall.old) around.old.items innermost (Enter func start) calls call
+        → WorkOfEvent (H.work hall.old) (H.work hall.new) (map passed calls) (passed call)
+        (Enter func start) result }
 {
     match around.push(innermost) {
         Ok(()) => Ok(OpenCall {
@@ -70,8 +72,10 @@ fn leave<R: Wait, H: Hall>(
     ensures records { BuildRecords (H.used_up hall.old) (H.used_up hall.new) result }
     ensures nexts { NextsRise (H.rooms hall.old) (H.rooms hall.new) }
     ensures spent { BuildSpends (H.rooms hall.new) result }
-    ensures work { WorkOfEvent (H.work hall.old) (H.work hall.new)
-        (open_number around.old.items + length innermost.items) (answer_number around.new.items result) }
+    ensures work { (calls : List StoredCall) (call : StoredCall)
+        → HoldsCalls (H.seat hall.old) around.old.items innermost (Leave stop) calls call
+        → WorkOfEvent (H.work hall.old) (H.work hall.new) (map passed calls) (passed call)
+        (Leave stop) result }
 {
     let item = match close(rt, hall, innermost, stop) {
         Ok(item) => item,
@@ -100,8 +104,9 @@ fn step<R: Wait, H: Hall>(
     ensures records { BuildRecords (H.used_up hall.old) (H.used_up hall.new) result }
     ensures nexts { NextsRise (H.rooms hall.old) (H.rooms hall.new) }
     ensures spent { BuildSpends (H.rooms hall.new) result }
-    ensures work { WorkOfEvent (H.work hall.old) (H.work hall.new)
-        (open_number around.old.items + length innermost.items) (answer_number around.new.items result) }
+    ensures work { (calls : List StoredCall) (call : StoredCall)
+        → HoldsCalls (H.seat hall.old) around.old.items innermost event calls call
+        → WorkOfEvent (H.work hall.old) (H.work hall.new) (map passed calls) (passed call) event result }
 {
     match event {
         Event::Enter(func, start) => enter(rt, alloc, hall, around, innermost, func, start),
@@ -124,7 +129,7 @@ pub fn build_track<R: Wait, H: Hall>(
     ensures records { BuildRecords (H.used_up hall.old) (H.used_up hall.new) result }
     ensures nexts { NextsRise (H.rooms hall.old) (H.rooms hall.new) }
     ensures spent { BuildSpends (H.rooms hall.new) result }
-    ensures work { AddsWorkUpTo (H.work hall.old) (H.work hall.new) (max 1 (length s.now.events)) }
+    ensures work { WorkOfTree (H.work hall.old) (H.work hall.new) (tree s.now) result }
 {
     let mut around = Vec::new(alloc);
     let mut innermost = OpenCall {

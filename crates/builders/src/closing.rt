@@ -1,8 +1,9 @@
-ghost use Rattle.std.specs.Prelude.{◌≡◌, ℕ, [], ◌∷◌, List, length, map, max};
+ghost use Rattle.std.specs.Prelude.{◌≡◌, ℕ, [], ◌∷◌, List, map};
 ghost use Rattle.builders.specs.Spending.{BuildSpends};
 ghost use Rattle.hall_trait.specs.Answers.{NextsRise};
-ghost use Rattle.builders.specs.Built.{StoredItem, stakes_held};
-ghost use Rattle.builders.specs.Builds.{AddsWorkUpTo, BuildRecords, BuildsItem};
+ghost use Rattle.builders.specs.Built.{StoredItem, items_in, stakes_held};
+ghost use Rattle.builders.specs.Builds.{BuildRecords, BuildsItem, WorkOfNodes, nodes_in};
+ghost use Rattle.node_key.specs.Tree.{nodes};
 ghost use Rattle.builders.specs.Calls.{AddsItem, HoldsCall, HoldsWith, StoredCall, calls_stakes, open_call};
 ghost use Rattle.builders.specs.Calls.{passed};
 ghost use Rattle.call_tree.specs.Passing.{closed_item};
@@ -31,7 +32,9 @@ pub fn close<R: Wait, H: Hall>(
     ensures records { BuildRecords (H.used_up hall.old) (H.used_up hall.new) result }
     ensures nexts { NextsRise (H.rooms hall.old) (H.rooms hall.new) }
     ensures spent { BuildSpends (H.rooms hall.new) result }
-    ensures work { AddsWorkUpTo (H.work hall.old) (H.work hall.new) (max 1 (length innermost.items)) }
+    ensures work { (call : StoredCall) → HoldsCall (H.seat hall.old) innermost stop call
+        → WorkOfNodes (H.work hall.old) (H.work hall.new) (nodes_in (items_in call.stored))
+        (nodes (closed_item (passed call) stop).tree) result }
 {
     let OpenCall { func, start, items } = innermost;
     let bounded = match bound_of(rt, hall, items) {

@@ -2,8 +2,9 @@ ghost use Rattle.std.specs.Prelude.{◌≡◌, ◌+◌, ◌≤◌, ◌<◌, ℕ,
 ghost use Rattle.builders.specs.Spending.{BuildSpends};
 ghost use Rattle.hall_trait.specs.Answers.{NextsRise};
 ghost use Rattle.builders.specs.Built.{StoredItem, items_in, stakes_held};
-ghost use Rattle.builders.specs.Builds.{BuildRecords, BuildsItem, BuildsItems, HoldsBetween, WorkPaidBy};
-ghost use Rattle.builders.specs.Builds.{MayBeBound, items_left};
+ghost use Rattle.builders.specs.Builds.{BuildRecords, BuildsItem, BuildsItems, HoldsBetween, MayBeBound};
+ghost use Rattle.builders.specs.Builds.{WorkOfNodes, nodes_in};
+ghost use Rattle.node_key.specs.Tree.{nodes};
 ghost use Rattle.node_key.specs.Bound.{bound, group, grouped};
 
 use crate::built::BuiltItem;
@@ -31,7 +32,9 @@ fn group_of<R: Wait, H: Hall>(
     ensures records { BuildRecords (H.used_up hall.old) (H.used_up hall.new) result }
     ensures nexts { NextsRise (H.rooms hall.old) (H.rooms hall.new) }
     ensures spent { BuildSpends (H.rooms hall.new) result }
-    ensures work { WorkPaidBy (H.work hall.old) (H.work hall.new) (length chunk.now) 1 }
+    ensures work { (stored : List StoredItem) → HoldsBetween (H.seat hall.old) 0 MAX_TIME chunk.now stored
+        → WorkOfNodes (H.work hall.old) (H.work hall.new) (nodes_in (items_in stored))
+        (nodes (group (items_in stored)).tree) result }
 {
     if chunk.len() == 1 {
         return Ok(chunk[0]);
@@ -53,7 +56,9 @@ pub fn grouped_of<R: Wait, H: Hall>(
     ensures records { BuildRecords (H.used_up hall.old) (H.used_up hall.new) result }
     ensures nexts { NextsRise (H.rooms hall.old) (H.rooms hall.new) }
     ensures spent { BuildSpends (H.rooms hall.new) result }
-    ensures work { WorkPaidBy (H.work hall.old) (H.work hall.new) (length items) (items_left result) }
+    ensures work { (stored : List StoredItem) → HoldsBetween (H.seat hall.old) 0 MAX_TIME items stored
+        → WorkOfNodes (H.work hall.old) (H.work hall.new) (nodes_in (items_in stored))
+        (nodes_in (grouped (items_in stored))) result }
 {
     let number = items.len();
     let mut list = items.into_vec();
@@ -92,7 +97,9 @@ pub fn bound_of<R: Wait, H: Hall>(
     ensures records { BuildRecords (H.used_up hall.old) (H.used_up hall.new) result }
     ensures nexts { NextsRise (H.rooms hall.old) (H.rooms hall.new) }
     ensures spent { BuildSpends (H.rooms hall.new) result }
-    ensures work { WorkPaidBy (H.work hall.old) (H.work hall.new) (length items) (items_left result) }
+    ensures work { (stored : List StoredItem) → MayBeBound (H.seat hall.old) items stored
+        → WorkOfNodes (H.work hall.old) (H.work hall.new) (nodes_in (items_in stored))
+        (nodes_in (bound (items_in stored))) result }
 {
     let mut bounded = items;
     let mut number = bounded.len();

@@ -1,9 +1,9 @@
-ghost use Rattle.std.specs.Prelude.{◌≡◌, ◌+◌, ◌≤◌, ◌<◌, ℕ, [], length, List, IfErr};
+ghost use Rattle.std.specs.Prelude.{◌≡◌, ◌+◌, ◌≤◌, ◌<◌, ℕ, [], length, List, IfErr, IfOk};
 ghost use Rattle.builders.specs.Spending.{BuildSpends};
 ghost use Rattle.hall_trait.specs.Answers.{NextsRise};
 ghost use Rattle.builders.specs.Built.{StoredItem, items_in, stakes_held};
-ghost use Rattle.builders.specs.Builds.{AddsWorkUpTo, BuildRecords, BuildsItem, Holds, HoldsBetween};
-ghost use Rattle.hall_trait.specs.Answers.{AddsNoWork, RecordsNone};
+ghost use Rattle.builders.specs.Builds.{BuildRecords, BuildsItem, Holds, HoldsBetween};
+ghost use Rattle.hall_trait.specs.Answers.{AddsNoWork, AddsWork, RecordsNone};
 ghost use Rattle.node_key.specs.Items.{node};
 ghost use Rattle.hall_history.specs.Seat.{ExchangesStakes};
 ghost use Rattle.std.specs.Prelude.{◌⊎◌};
@@ -43,7 +43,7 @@ pub fn node_of<R: Wait, H: Hall>(
     ensures records { BuildRecords (H.used_up hall.old) (H.used_up hall.new) result }
     ensures nexts { NextsRise (H.rooms hall.old) (H.rooms hall.new) }
     ensures spent { BuildSpends (H.rooms hall.new) result }
-    ensures work { AddsWorkUpTo (H.work hall.old) (H.work hall.new) 1 }
+    ensures work { IfOk result (λ b. AddsWork (H.work hall.old) (H.work hall.new) 1) }
     ensures idle { IfErr result (λ e. AddsNoWork (H.work hall.old) (H.work hall.new)) }
 {
     let key = key_of(func, start, end, items);

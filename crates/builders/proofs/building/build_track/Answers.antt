@@ -4,7 +4,8 @@ use Rattle.trace_base.specs.declared.stream.Event.{Event}
 use Rattle.trace_base.specs.declared.stream.Event.TheVariants.{Enter}
 use Rattle.builders.proofs.BuildingTrack.{BuildingTrack-close, BuildingTrack-next, BuildingTrack-refused}
 use Rattle.builders.proofs.BuildingTrack.{BuildingTrack-root, BuildingTrack-start, BuildingTrack-left}
-use Rattle.builders.proofs.BuildingTrack.{BuildingTrack-step}
+use Rattle.builders.proofs.BuildingTrack.{BuildingTrack-left-work, BuildingTrack-refused-work}
+use Rattle.builders.proofs.BuildingTrack.{BuildingTrack-root-work, BuildingTrack-step}
 use Rattle.builders.proofs.Bags.{exchanges-then}
 use Rattle.builders.specs.Calls.{calls_stakes}
 use Rattle.std.proofs.Common.{[]}
@@ -90,7 +91,7 @@ loop-event-preserved g c =
           (g.H.Hall.work c.step.new.hall) c.loop-event.around.items c.step.new.around.items
           c.loop-event.innermost
           c.in-Ok.now c.loop-event.event-index _ b next (c.in-Ok.ensures.answer b.calls b.call held)
-          c.in-Ok.ensures.work;
+          (c.in-Ok.ensures.work b.calls b.call held);
       used_up = c.in-Ok.ensures.records ∙ c.loop-event.invariant.used_up;
       nexts = nexts_then (g.H.Hall.rooms c.args.hall.now) (g.H.Hall.rooms c.loop-event.hall)
           (g.H.Hall.rooms c.step.new.hall) c.loop-event.invariant.nexts c.step.ensures.nexts;
@@ -158,3 +159,47 @@ pub returns-clause-nexts : goal.returns-clause-nexts
 returns-clause-nexts g c =
     (nexts_then (g.H.Hall.rooms c.args.hall.now) (g.H.Hall.rooms c.loop-event.hall)
     (g.H.Hall.rooms c.close.new.hall) c.loop-event.invariant.nexts c.close.ensures.nexts)
+
+pub returns-in-Err-clause-work : goal.returns-in-Err-clause-work
+returns-in-Err-clause-work g c =
+    let b = c.loop-event.invariant.building in
+    let next = (next_in c.args.s.now.events _ c.loop-event.event-index c.as_slice-event-items.ensures
+    (omega arith)) in
+    let held = BuildingTrack-next c.args.s.now (g.H.Hall.seat c.args.hall.now)
+    (g.H.Hall.seat c.loop-event.hall)
+    (g.H.Hall.work c.args.hall.now) (g.H.Hall.work c.loop-event.hall) c.loop-event.around.items
+    c.loop-event.innermost c.loop-event.event-index _ c.requires b
+    next in
+    BuildingTrack-left-work c.args.s.now (g.H.Hall.seat c.args.hall.now) (g.H.Hall.seat c.loop-event.hall)
+    (g.H.Hall.work c.args.hall.now) (g.H.Hall.work c.loop-event.hall) (g.H.Hall.work c.step.new.hall)
+    (g.H.Hall.work c.release_calls.new.hall) c.loop-event.around.items c.loop-event.innermost
+    c.loop-event.event-index (get_or c.as_slice-event-items.result.now c.loop-event.event-index (Enter 0 0))
+    c.in-Err.fault c.requires b next (c.in-Err.ensures.work b.calls b.call held) c.release_calls.ensures.work
+
+pub returns-in-Ok-close-clause-work : goal.returns-in-Ok-close-clause-work
+returns-in-Ok-close-clause-work g c =
+    let b = c.loop-event.invariant.building in
+    let held = BuildingTrack-close c.args.s.now (g.H.Hall.seat c.args.hall.now)
+    (g.H.Hall.seat c.loop-event.hall)
+    (g.H.Hall.work c.args.hall.now) (g.H.Hall.work c.loop-event.hall) c.loop-event.around.items
+    c.loop-event.innermost c.loop-event.event-index c.requires b
+    (omega (arith, c.loop-event-test.false, ap length c.as_slice-event-items.ensures)) in
+    BuildingTrack-root-work c.args.s.now (g.H.Hall.seat c.args.hall.now) (g.H.Hall.seat c.loop-event.hall)
+    (g.H.Hall.work c.args.hall.now) (g.H.Hall.work c.loop-event.hall) (g.H.Hall.work c.close.new.hall)
+    c.loop-event.around.items c.loop-event.innermost c.loop-event.event-index c.in-Ok-close.root c.requires b
+    (omega (arith, c.loop-event-test.false, ap length c.as_slice-event-items.ensures))
+    (c.in-Ok-close.ensures.work b.call held)
+
+pub returns-clause-work : goal.returns-clause-work
+returns-clause-work g c =
+    let b = c.loop-event.invariant.building in
+    let held = BuildingTrack-close c.args.s.now (g.H.Hall.seat c.args.hall.now)
+    (g.H.Hall.seat c.loop-event.hall)
+    (g.H.Hall.work c.args.hall.now) (g.H.Hall.work c.loop-event.hall) c.loop-event.around.items
+    c.loop-event.innermost c.loop-event.event-index c.requires b
+    (omega (arith, c.loop-event-test.false, ap length c.as_slice-event-items.ensures)) in
+    BuildingTrack-refused-work c.args.s.now (g.H.Hall.seat c.args.hall.now) (g.H.Hall.seat c.loop-event.hall)
+    (g.H.Hall.work c.args.hall.now) (g.H.Hall.work c.loop-event.hall) (g.H.Hall.work c.close.new.hall)
+    c.loop-event.around.items c.loop-event.innermost c.loop-event.event-index c.in-Err-close.fault c.requires
+    b (omega (arith, c.loop-event-test.false, ap length c.as_slice-event-items.ensures))
+    (c.in-Err-close.ensures.work b.call held)

@@ -1,6 +1,12 @@
-use Rattle.std.proofs.Common.{refl}
+use Rattle.std.proofs.Common.{Err, map, refl}
+use Rattle.node_key.specs.Tree.{nodes}
+use Rattle.call_tree.specs.Passing.{closed_item}
+use Rattle.builders.specs.Built.{items_in}
+use Rattle.builders.specs.Builds.{nodes_in}
+use Rattle.builders.specs.Calls.{passed}
+use Rattle.builders.proofs.CountingNodes.{leave-work, work-kept}
 use Rattle.trace_base.specs.declared.stream.Event.TheVariants.{Leave}
-use Rattle.builders.proofs.PassingCalls.{innermost-gone, leave-closes, left-by, left-passes, paid-leave}
+use Rattle.builders.proofs.PassingCalls.{innermost-gone, leave-closes, left-by, left-passes}
 use Rattle.builders.proofs.Spending.{nexts_then}
 use Rattle.builders.proofs.building.leave.Goals as goal
 
@@ -45,21 +51,22 @@ returns-clause-answer g c calls call held =
     call
     c.with_item.result left (c.with_item.ensures.answer left.last left.one left.held)
 
+pub returns-in-Err-clause-work : goal.returns-in-Err-clause-work
+returns-in-Err-clause-work g c calls call held =
+    leave-work (g.H.Hall.work c.args.hall.now) (g.H.Hall.work c.close.new.hall) (map passed calls)
+    (passed call) c.args.stop (Err c.in-Err.fault) (c.in-Err.ensures.work call
+    (leave-closes (g.H.Hall.seat c.args.hall.now) c.args.around.now.items c.args.innermost c.args.stop calls
+    call held))
+
 pub returns-clause-work : goal.returns-clause-work
-returns-clause-work g c =
-    let left = left-by (g.H.Hall.seat c.args.hall.now) (g.H.Hall.seat c.close.new.hall)
-    c.args.around.now.items
-    c.pop.new.self.items c.args.innermost c.in-Some.outer c.in-Ok.item c.args.stop c.requires.0 c.requires.1
-    c.requires.2 c.in-Some.ensures.items (c.in-Ok.ensures.answer c.requires.1
-    (leave-closes (g.H.Hall.seat c.args.hall.now) c.args.around.now.items c.args.innermost c.args.stop
-    c.requires.0
-    c.requires.1 c.requires.2)) in
-    paid-leave (g.H.Hall.seat c.args.hall.now) (g.H.Hall.seat c.close.new.hall)
-    (g.H.Hall.seat c.with_item.new.hall) (g.H.Hall.work c.args.hall.now) (g.H.Hall.work c.close.new.hall)
-    (g.H.Hall.work c.with_item.new.hall) c.args.around.now.items c.pop.new.self.items c.args.innermost
-    c.in-Some.outer c.in-Ok.item c.args.stop c.requires.0 c.requires.1 c.with_item.result left
-    (c.with_item.ensures.answer left.last left.one left.held) c.in-Some.ensures.items c.in-Ok.ensures.work
-    c.with_item.ensures.work
+returns-clause-work g c calls call held =
+    leave-work (g.H.Hall.work c.args.hall.now) (g.H.Hall.work c.with_item.new.hall) (map passed calls)
+    (passed call) c.args.stop c.with_item.result
+    (work-kept (g.H.Hall.work c.args.hall.now) (g.H.Hall.work c.close.new.hall)
+    (g.H.Hall.work c.with_item.new.hall) (nodes_in (items_in call.stored))
+    (nodes (closed_item (passed call) c.args.stop).tree) c.with_item.result (c.in-Ok.ensures.work call
+    (leave-closes (g.H.Hall.seat c.args.hall.now) c.args.around.now.items c.args.innermost c.args.stop calls
+    call held)) c.with_item.ensures.work)
 
 pub returns-clause-nexts : goal.returns-clause-nexts
 returns-clause-nexts g c =

@@ -1,8 +1,8 @@
-use Rattle.std.proofs.Common.{[], length}
+use Rattle.std.proofs.Common.{[], ◌∙◌}
 use Rattle.builders.specs.Built.{stakes_held}
 use Rattle.builders.proofs.Bags.{exchanges-then}
-use Rattle.builders.proofs.ClosingCalls.{bounded-held, call-bound, call-closed, held-bounded, paid-close}
-use Rattle.builders.proofs.ClosingCalls.{some-bounded}
+use Rattle.builders.proofs.ClosingCalls.{bounded-held, call-bound, call-closed, closed-work, held-bounded}
+use Rattle.builders.proofs.ClosingCalls.{unbound-work, unclosed-work}
 use Rattle.builders.proofs.Spending.{nexts_then, spends_later}
 use Rattle.builders.proofs.closing.close.Goals as goal
 
@@ -40,15 +40,26 @@ returns-in-Ok-node_of-clause-answer g c call held =
     c.args.stop
     call c.in-Ok.bounded c.as_slice.result.now held c.as_slice.ensures built))
 
+pub returns-in-Err-clause-work : goal.returns-in-Err-clause-work
+returns-in-Err-clause-work g c call held =
+    unbound-work (g.H.Hall.work c.args.hall.now) (g.H.Hall.work c.bound_of.new.hall) call c.args.stop
+    (c.in-Err.ensures.work call.stored
+    (call-bound (g.H.Hall.seat c.args.hall.now) c.args.innermost c.args.stop call held))
+
 pub returns-in-Ok-node_of-clause-work : goal.returns-in-Ok-node_of-clause-work
-returns-in-Ok-node_of-clause-work g c =
-    paid-close (g.H.Hall.work c.args.hall.now) (g.H.Hall.work c.bound_of.new.hall)
-    (g.H.Hall.work c.node_of.new.hall) (length c.args.innermost.items) (length c.in-Ok.bounded)
-    (some-bounded (g.H.Hall.seat c.args.hall.now) (g.H.Hall.seat c.bound_of.new.hall) c.args.innermost
-    c.args.stop
-    c.requires.0 c.in-Ok.bounded c.requires.1 (c.in-Ok.ensures.answer c.requires.0.stored
-    (call-bound (g.H.Hall.seat c.args.hall.now) c.args.innermost c.args.stop c.requires.0 c.requires.1)))
-    c.in-Ok.ensures.work c.in-Ok-node_of.ensures.work
+returns-in-Ok-node_of-clause-work g c call held =
+    closed-work (g.H.Hall.work c.args.hall.now) (g.H.Hall.work c.bound_of.new.hall)
+    (g.H.Hall.work c.node_of.new.hall) call c.args.stop c.in-Ok-node_of.item
+    (c.in-Ok.ensures.work call.stored
+    (call-bound (g.H.Hall.seat c.args.hall.now) c.args.innermost c.args.stop call held))
+    c.in-Ok-node_of.ensures.work
+
+pub returns-clause-work : goal.returns-clause-work
+returns-clause-work g c call held =
+    unclosed-work (g.H.Hall.work c.args.hall.now) (g.H.Hall.work c.bound_of.new.hall)
+    (g.H.Hall.work c.release_all.new.hall) call c.args.stop (c.in-Ok.ensures.work call.stored
+    (call-bound (g.H.Hall.seat c.args.hall.now) c.args.innermost c.args.stop call held))
+    (c.release_all.ensures.work ∙ c.in-Err-node_of.ensures.idle)
 
 pub release_all-requires : goal.release_all-requires
 release_all-requires g c =

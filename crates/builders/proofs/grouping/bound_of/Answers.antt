@@ -2,8 +2,7 @@ use Rattle.std.proofs.Common.{[], ◌∙◌, arith, refl}
 use Rattle.builders.specs.Built.{stakes_held}
 use Rattle.builders.proofs.Bags.{exchanges-then}
 use Rattle.builders.proofs.BoundingItems.{BoundingItems-end, BoundingItems-more, BoundingItems-start}
-use Rattle.builders.proofs.BoundingItems.{groups-fewer}
-use Rattle.builders.proofs.BoundingItems.{held-next}
+use Rattle.builders.proofs.BoundingItems.{BoundingItems-work, bounding-refused, groups-fewer, held-next}
 use Rattle.builders.proofs.Spending.{nexts_same, nexts_then}
 use Rattle.builders.proofs.grouping.bound_of.Goals as goal
 
@@ -19,7 +18,8 @@ pub grouped_of-requires : goal.grouped_of-requires
 grouped_of-requires g c =
     let here = c.levels.invariant.bounding.so_far c.requires.0 c.requires.1 in (
       here.left,
-      held-next (g.H.Hall.seat c.args.hall.now) (g.H.Hall.seat c.levels.hall) c.args.items c.levels.bounded
+      held-next (g.H.Hall.seat c.args.hall.now) (g.H.Hall.seat c.levels.hall)
+          (g.H.Hall.work c.args.hall.now) (g.H.Hall.work c.levels.hall) c.args.items c.levels.bounded
           c.requires.0 c.requires.1 here,
     )
 
@@ -32,10 +32,11 @@ levels-smaller g c =
       c.len-number-in-levels.ensures,
       here.number_is,
       groups-fewer (g.H.Hall.seat c.args.hall.now) (g.H.Hall.seat c.levels.hall)
-          (g.H.Hall.seat c.grouped_of.new.hall)
+          (g.H.Hall.seat c.grouped_of.new.hall) (g.H.Hall.work c.args.hall.now) (g.H.Hall.work c.levels.hall)
           c.args.items c.levels.bounded c.in-Ok.groups c.requires.0 (omega (arith, here.number_is)) so_far
           (c.in-Ok.ensures.answer so_far.left
-          (held-next (g.H.Hall.seat c.args.hall.now) (g.H.Hall.seat c.levels.hall) c.args.items
+          (held-next (g.H.Hall.seat c.args.hall.now) (g.H.Hall.seat c.levels.hall)
+          (g.H.Hall.work c.args.hall.now) (g.H.Hall.work c.levels.hall) c.args.items
           c.levels.bounded
           c.requires.0 c.requires.1 so_far)),
     )
@@ -58,13 +59,14 @@ returns-in-Err-clause-answer g c stored held =
     exchanges-then (g.H.Hall.seat c.args.hall.now) (g.H.Hall.seat c.levels.hall)
     (g.H.Hall.seat c.grouped_of.new.hall) (stakes_held stored) (stakes_held so_far.left) [] so_far.exchanged
     (c.in-Err.ensures.answer so_far.left
-    (held-next (g.H.Hall.seat c.args.hall.now) (g.H.Hall.seat c.levels.hall) c.args.items c.levels.bounded
+    (held-next (g.H.Hall.seat c.args.hall.now) (g.H.Hall.seat c.levels.hall)
+    (g.H.Hall.work c.args.hall.now) (g.H.Hall.work c.levels.hall) c.args.items c.levels.bounded
     stored held so_far))
 
 pub returns-clause-answer : goal.returns-clause-answer
 returns-clause-answer g c stored held =
-    BoundingItems-end (g.H.Hall.seat c.args.hall.now) (g.H.Hall.seat c.levels.hall) c.args.items
-    c.levels.bounded
+    BoundingItems-end (g.H.Hall.seat c.args.hall.now) (g.H.Hall.seat c.levels.hall)
+    (g.H.Hall.work c.args.hall.now) (g.H.Hall.work c.levels.hall) c.args.items c.levels.bounded
     stored (omega (arith, c.levels.invariant.bounding.number_is))
     (c.levels.invariant.bounding.so_far stored held)
 
@@ -72,3 +74,20 @@ pub returns-in-Err-clause-nexts : goal.returns-in-Err-clause-nexts
 returns-in-Err-clause-nexts g c =
     (nexts_then (g.H.Hall.rooms c.args.hall.now) (g.H.Hall.rooms c.levels.hall)
     (g.H.Hall.rooms c.grouped_of.new.hall) c.levels.invariant.nexts c.grouped_of.ensures.nexts)
+
+pub returns-clause-work : goal.returns-clause-work
+returns-clause-work g c stored held =
+    BoundingItems-work (g.H.Hall.seat c.args.hall.now) (g.H.Hall.seat c.levels.hall)
+    (g.H.Hall.work c.args.hall.now) (g.H.Hall.work c.levels.hall) c.args.items c.levels.bounded
+    stored (omega (arith, c.levels.invariant.bounding.number_is))
+    (c.levels.invariant.bounding.so_far stored held)
+
+pub returns-in-Err-clause-work : goal.returns-in-Err-clause-work
+returns-in-Err-clause-work g c stored held =
+    let so_far = c.levels.invariant.bounding.so_far stored held in
+    bounding-refused (g.H.Hall.seat c.args.hall.now) (g.H.Hall.seat c.levels.hall)
+    (g.H.Hall.work c.args.hall.now) (g.H.Hall.work c.levels.hall) (g.H.Hall.work c.grouped_of.new.hall)
+    c.levels.bounded stored (omega (arith, c.levels.invariant.bounding.number_is)) so_far
+    (c.in-Err.ensures.work so_far.left
+    (held-next (g.H.Hall.seat c.args.hall.now) (g.H.Hall.seat c.levels.hall) (g.H.Hall.work c.args.hall.now)
+    (g.H.Hall.work c.levels.hall) c.args.items c.levels.bounded stored held so_far))

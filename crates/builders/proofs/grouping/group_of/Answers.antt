@@ -1,7 +1,7 @@
 use Rattle.std.proofs.Common.{arith}
 use Rattle.trace_base.specs.declared.limits.TheConstants.{MAX_TIME}
 use Rattle.builders.specs.declared.built.BuiltItem.{BuiltItem}
-use Rattle.builders.proofs.ChunkGroups.{group_built, held-own, one_item}
+use Rattle.builders.proofs.ChunkGroups.{group-work, group_built, held-own, one-work, one_item}
 use Rattle.builders.proofs.Interning.{held-within}
 use Rattle.builders.proofs.grouping.group_of.Goals as goal
 
@@ -38,3 +38,13 @@ returns-clause-answer g c stored held =
     (held-own (g.H.Hall.seat c.args.hall.now) 0 MAX_TIME c.start.result c.stop.result c.args.chunk.now stored
     held
     c.requires.some starts stops))
+
+pub returns-then-chunk-eq1-clause-work : goal.returns-then-chunk-eq1-clause-work
+returns-then-chunk-eq1-clause-work g c stored held =
+    one-work (g.H.Hall.work c.args.hall.now) c.args.chunk.now stored held.are c.if-chunk-eq1.true
+
+pub returns-clause-work : goal.returns-clause-work
+returns-clause-work g c stored held =
+    group-work (g.H.Hall.work c.args.hall.now) (g.H.Hall.work c.node_of.new.hall) c.args.chunk.now stored
+    c.node_of.result held.are (omega (arith, c.requires.some, c.if-chunk-eq1.false)) c.node_of.ensures.work
+    c.node_of.ensures.idle

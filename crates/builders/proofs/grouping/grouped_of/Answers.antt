@@ -1,11 +1,14 @@
 use Rattle.std.proofs.Common.{◌≡◌, ◌+◌, ◌-◌, ◌∙◌, ◌≤◌, List, ap, arith, min, take, drop, refl, length}
 use Rattle.std.proofs.Common.{take_all, ℕ, []}
 use Rattle.std.proofs.lemmas.List.{length-drop}
-use Rattle.builders.specs.Built.{stakes_held}
+use Rattle.node_key.specs.Bound.{grouped}
+use Rattle.builders.specs.Built.{items_in, stakes_held}
+use Rattle.builders.specs.Builds.{nodes_in}
 use Rattle.builders.specs.declared.built.BuiltItem.{BuiltItem}
 use Rattle.builders.proofs.Bags.{exchanges-then}
 use Rattle.builders.proofs.GroupingItems.{GroupingItems-end, GroupingItems-more, GroupingItems-start}
-use Rattle.builders.proofs.GroupingItems.{chunk_is}
+use Rattle.builders.proofs.GroupingItems.{GroupingItems-work, chunk_is, refused-work}
+use Rattle.builders.proofs.CountingNodes.{work-refused}
 use Rattle.builders.proofs.GroupingItems.{Split-chunk, refused-front, refused-groups, refused-left}
 use Rattle.builders.proofs.Spending.{nexts_same, nexts_then, spends_later}
 use Rattle.builders.proofs.grouping.grouped_of.Goals as goal
@@ -38,8 +41,8 @@ group_of-requires-clause-held g c =
     let here = c.chunks.invariant.grouping in
     let s = here.parts c.requires.0 c.requires.1 in (
       take 8 s.left,
-      Split-chunk (g.H.Hall.seat c.args.hall.now) (g.H.Hall.seat c.chunks.hall) c.args.items
-          c.chunks.list.items _
+      Split-chunk (g.H.Hall.seat c.args.hall.now) (g.H.Hall.seat c.chunks.hall)
+          (g.H.Hall.work c.args.hall.now) (g.H.Hall.work c.chunks.hall) c.args.items c.chunks.list.items _
           c.requires.0 c.chunks.groups c.chunks.from c.requires.1 s
           (next_chunk c.chunks.list.items c.deref.result.now c.len-number.result c.chunks.from c.min.result
           c.deref.ensures.value here.size c.min.ensures here.back),
@@ -142,3 +145,24 @@ returns-in-Err-clause-spent g c =
     (nexts_then (g.H.Hall.rooms c.group_of.new.hall) (g.H.Hall.rooms c.release_all.new.hall)
     (g.H.Hall.rooms c.release_all-in-Err.new.hall) c.release_all.ensures.nexts
     c.release_all-in-Err.ensures.nexts) c.in-Err.ensures.spent
+
+pub returns-clause-work : goal.returns-clause-work
+returns-clause-work g c stored held =
+    GroupingItems-work (g.H.Hall.seat c.args.hall.now) (g.H.Hall.seat c.chunks.hall)
+    (g.H.Hall.work c.args.hall.now) (g.H.Hall.work c.chunks.hall) c.args.items c.chunks.list.items
+    c.from_vec.result c.len-number.result c.chunks.groups c.chunks.from c.chunks.invariant.grouping
+    (omega arith) stored held
+
+pub returns-in-Err-clause-work : goal.returns-in-Err-clause-work
+returns-in-Err-clause-work g c stored held =
+    let here = c.chunks.invariant.grouping in
+    work-refused (g.H.Hall.work c.args.hall.now) (g.H.Hall.work c.group_of.new.hall)
+    (g.H.Hall.work c.release_all-in-Err.new.hall) (nodes_in (items_in stored))
+    (nodes_in (grouped (items_in stored)))
+    (refused-work (g.H.Hall.seat c.args.hall.now) (g.H.Hall.seat c.chunks.hall)
+    (g.H.Hall.work c.args.hall.now) (g.H.Hall.work c.chunks.hall) (g.H.Hall.work c.group_of.new.hall)
+    c.args.items c.chunks.list.items _ c.len-number.result c.chunks.groups c.chunks.from c.in-Err.fault here
+    c.chunks-test.true
+    (next_chunk c.chunks.list.items c.deref.result.now c.len-number.result c.chunks.from c.min.result
+    c.deref.ensures.value here.size c.min.ensures here.back) c.in-Err.ensures.work stored held)
+    (c.release_all-in-Err.ensures.work ∙ c.release_all.ensures.work)
