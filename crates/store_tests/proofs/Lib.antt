@@ -1,3 +1,5 @@
+mod CountingWork
+mod NineCalls
 mod Owning
 mod SampleLoads
 mod SampleStakes

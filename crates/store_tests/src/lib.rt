@@ -2,6 +2,8 @@
 #![tactic(auto)]
 
 #[cfg(test)]
+mod counting;
+#[cfg(test)]
 mod fault;
 #[cfg(test)]
 mod hall;
@@ -17,3 +19,5 @@ mod samples;
 mod shard;
 #[cfg(test)]
 mod trees;
+#[cfg(test)]
+mod work;

@@ -1,0 +1,118 @@
+//! A hall that tells the work of its seat.
+ghost use Rattle.std.specs.Prelude.{◌≡◌, IfOk};
+
+use hall_history::AskIds;
+use hall_trait::{AskAnswer, Hall, HallFault, LoadPass, Pin, Published};
+use node_key::NodeKey;
+use plain_hall::PlainHall;
+use shard_core::Interned;
+use std::alloc::Global;
+use std::sync::{Arc, Wait};
+use trace_base::{Memory, TraceInfo};
+
+/// A hall with one owner that counts the nodes that are interned in it, those that it has already too.
+#[derive(Drop)]
+pub(crate) struct CountingHall {
+    hall: PlainHall,
+    /// How many nodes were interned. Where no more can be counted, `intern` answers `Memory`.
+    pub(crate) interned: u64,
+}
+
+impl CountingHall {
+    /// A hall without traces, in which nothing was interned.
+    pub(crate) fn new(alloc: Global) -> Result<CountingHall, Memory>
+        ensures { IfOk result (λ counting. counting.interned ≡ 0) }
+    {
+        let hall = PlainHall::new(alloc)?;
+        Ok(CountingHall { hall, interned: 0 })
+    }
+}
+
+impl Hall for CountingHall {
+    ghost use Rattle.std.specs.Prelude.{true, None, Some};
+    ghost use Rattle.node_key.specs.Stands.{Stands};
+    ghost use Rattle.node_store.specs.Given.{ever};
+    ghost use Rattle.plain_hall.specs.HallLaws.{room_left, stakes_stand};
+    ghost use Rattle.plain_hall.specs.PlainHall.{seat_of};
+    ghost use Rattle.store_tests.specs.SeatWork.{work_of};
+
+    ghost seat = { λ counting. seat_of counting.hall };
+
+    ghost alone = { true };
+
+    ghost reaches = { λ counting n t. Stands (ever counting.hall.nodes.given) n t };
+
+    ghost used_up = { λ _. None };
+
+    ghost work = { λ counting. Some (work_of counting.interned (seat_of counting.hall).seen) };
+
+    ghost rooms = { λ counting. Some counting.hall.nodes.rooms };
+
+    ghost legal = { λ counting. counting.hall.whole.kept.legal };
+
+    ghost room = { λ counting. room_left counting.hall.whole };
+
+    ghost staked = { λ counting x there. stakes_stand counting.hall.whole x there };
+
+    fn intern<R: Wait>(&mut self, rt: &R, key: NodeKey) -> Result<Interned, HallFault> {
+        if self.interned == u64::MAX {
+            return Err(HallFault::Memory);
+        }
+        match self.hall.intern(rt, key) {
+            Ok(interned) => {
+                self.interned += 1;
+                Ok(interned)
+            }
+            Err(fault) => Err(fault),
+        }
+    }
+
+    fn read<R: Wait>(&mut self, rt: &R, n: u64) -> NodeKey {
+        self.hall.read(rt, n)
+    }
+
+    fn release<R: Wait>(&mut self, rt: &R, n: u64) {
+        self.hall.release(rt, n);
+    }
+
+    fn admit<R: Wait>(
+        &mut self,
+        rt: &R,
+        info: Arc<TraceInfo, Global>,
+    ) -> Result<LoadPass, HallFault> {
+        self.hall.admit(rt, info)
+    }
+
+    fn publish<R: Wait>(&mut self, rt: &R, pass: &mut LoadPass, start: u64, root: u64) -> u64 {
+        self.hall.publish(rt, pass, start, root)
+    }
+
+    fn seal<R: Wait>(&mut self, rt: &R, pass: LoadPass) -> u64 {
+        self.hall.seal(rt, pass)
+    }
+
+    fn abandon<R: Wait>(&mut self, rt: &R, pass: LoadPass) -> u64 {
+        self.hall.abandon(rt, pass)
+    }
+
+    fn ask<R: Wait>(&mut self, rt: &R, ids: AskIds) -> AskAnswer {
+        self.hall.ask(rt, ids)
+    }
+
+    fn published<R: Wait>(&mut self, rt: &R, pin: &Pin, which: u8, track: u32) -> Published {
+        self.hall.published(rt, pin, which, track)
+    }
+
+    fn info<R: Wait>(
+        &mut self,
+        rt: &R,
+        pin: &Pin,
+        which: u8,
+    ) -> Result<Arc<TraceInfo, Global>, HallFault> {
+        self.hall.info(rt, pin, which)
+    }
+
+    fn unpin<R: Wait>(&mut self, rt: &R, pin: Pin) {
+        self.hall.unpin(rt, pin);
+    }
+}
