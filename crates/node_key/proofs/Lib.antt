@@ -1,3 +1,4 @@
+mod KeyKids
 pub mod Kids
 pub mod Numbering
 pub mod Placing

@@ -28,3 +28,53 @@ pub struct NodeKey {
     pub ghost leaf: { (height ≡ 0) ↔ (len ≡ 0) },
     pub ghost within: { sum_by (λ k. k.gap + k.span) kids ≤ dur },
 }
+
+const NO_KID: Kid = Kid {
+    gap: 0,
+    span: 0,
+    node: 0,
+};
+
+impl NodeKey {
+    ghost use Rattle.std.specs.Prelude.{length, take};
+
+    /// The key of a node without kids: of a call of `func`, or of a group where that is 0, which takes so many
+    /// nanoseconds.
+    pub fn leaf(func: u32, dur: u64) -> NodeKey
+        ensures func { result.func ≡ func }
+        ensures dur { result.dur ≡ dur }
+        ensures height { result.height ≡ 0 }
+        ensures len { result.len ≡ 0 }
+    {
+        NodeKey {
+            func,
+            dur,
+            height: 0,
+            len: 0,
+            kids: [NO_KID; 8],
+        }
+    }
+
+    /// The key of a node over these kids, in order. Its kids past them are all zero, as those of any key.
+    pub fn over(func: u32, dur: u64, height: u16, kids: &[Kid]) -> NodeKey
+        requires some { 1 ≤ length kids.now }
+        requires few { length kids.now ≤ MAX_KIDS }
+        requires higher { 1 ≤ height }
+        requires within { sum_by (λ k. k.gap + k.span) kids.now ≤ dur }
+        ensures func { result.func ≡ func }
+        ensures dur { result.dur ≡ dur }
+        ensures height { result.height ≡ height }
+        ensures len { result.len ≡ length kids.now }
+        ensures kids { take (length kids.now) result.kids ≡ kids.now }
+    {
+        let mut first = [NO_KID; 8];
+        first[..kids.len()].copy_from_slice(kids);
+        NodeKey {
+            func,
+            dur,
+            height,
+            len: kids.len() as u8,
+            kids: first,
+        }
+    }
+}

@@ -5,7 +5,7 @@ ghost use Rattle.node_key.specs.declared.limits.TheConstants.{STORE_ROOMS};
 use crate::key::{Kid, NodeKey};
 use crate::limits::STORE_ROOMS;
 
-/// What a kid adds to the room of its node, in 64 bits.
+// What a kid adds to the room of its node, in 64 bits.
 fn weight(kid: Kid) -> u64
     ensures { result ≡ kid_weight kid % 2 ^ 64 }
 {
