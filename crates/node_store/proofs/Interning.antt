@@ -1,4 +1,4 @@
--- What follows from a key that was entered, once its kids' stakes are given for it.
+-- What follows from a key that was stored, once its kids' stakes are given for it.
 use Rattle.std.proofs.Common.{◌≡◌, ℕ, ◌+◌, ◌≤◌, List, [], ◌∷◌, ◌++◌, None, Some, Ok, Err, sym}
 use Rattle.std.proofs.Common.{ap, ◌∙◌, arith, subst, slice_get}
 use Rattle.node_key.specs.Rooms.{room}
@@ -19,15 +19,15 @@ use Rattle.store_laws.specs.Store.{Store}
 use Rattle.store_laws.proofs.StepsAnswered.{interned_known, interned_new}
 use Rattle.store_laws.proofs.StepsOfKids.{KidsStand-staked, numbers}
 use Rattle.store_laws.proofs.SumsOfStakes.{times_from_there}
-use Rattle.node_store.specs.Answering.{AnswersKey, IsFirstGiven, EntersIn, EntersKey, GivesStake, HasKids}
+use Rattle.node_store.specs.Answering.{AnswersKey, IsFirstGiven, StoresIn, StoresKey, GivesStake, HasKids}
 use Rattle.node_store.specs.Answering.{given_after, answered_number}
 use Rattle.node_store.specs.Changes.{with_last, with_staked}
 use Rattle.node_store.specs.Given.{Given, ever, staked_at, stakes_of}
 use Rattle.node_store.specs.Kept.{AreKept, KeepsFor, KeepsNumbers, NextNeverFalls, NodesKept}
 use Rattle.node_store.specs.TreeUnder.{kid_stakes, tree_under}
 use Rattle.node_store.proofs.Dropping.{next_kept}
-use Rattle.node_store.proofs.Entering.{first_of, known_entry, known_key, list, list_there, new_stands, number}
-use Rattle.node_store.proofs.Entering.{staked_stands, within}
+use Rattle.node_store.proofs.Storing.{first_of, known_entry, known_key, list, list_there, new_stands, number}
+use Rattle.node_store.proofs.Storing.{staked_stands, within}
 use Rattle.node_store.proofs.Exchanging.{exchanged_before}
 use Rattle.node_store.proofs.Keeping.{kept, number_is}
 use Rattle.node_store.proofs.KidLoops.{same_next}
@@ -115,12 +115,12 @@ answered_by old key (New n) r q is_kept there others keeps interns =
     new_answered old key r q is_kept there others keeps n interns
 
 pub answered : (old new : NodesKept) (key : NodeKey) (answer : Interned) → AreKept old
-    → ((others : List Stake) × KeepsFor old others) → EntersIn old key answer new
+    → ((others : List Stake) × KeepsFor old others) → StoresIn old key answer new
     → IsAnswered old key (answered_number answer) new.given
-answered old new key answer is_kept (others, keeps) entered =
-    subst (IsAnswered old key (answered_number answer)) (sym entered.given)
-    (answered_by old key answer entered.before entered.after is_kept entered.there others keeps
-    entered.interns)
+answered old new key answer is_kept (others, keeps) stored =
+    subst (IsAnswered old key (answered_number answer)) (sym stored.given)
+    (answered_by old key answer stored.before stored.after is_kept stored.there others keeps
+    stored.interns)
 
 -- ---- the stakes on the kids
 
@@ -155,28 +155,28 @@ has_kids_after old new key n is_kept is (t, kids, over, has) =
 -- a known key is counted once more
 pub known_keeps : (old new : NodesKept) (key : NodeKey) (n : ℕ) → IsAnswered old key n new.given
     → HasKids old key
-    → EntersIn old key (Known n) new → (others : List Stake) → KeepsFor old others → KeepsFor new others
-known_keeps old new key n is (t, kids, over, has) entered others keeps =
+    → StoresIn old key (Known n) new → (others : List Stake) → KeepsFor old others → KeepsFor new others
+known_keeps old new key n is (t, kids, over, has) stored others keeps =
     let held = stakes_of old.given ++ others in
     let left = stakes_of new.given ++ others in
-    subst (λ (rooms : Store). IsStore rooms left) (sym entered.rooms)
-    (interned_known old.rooms held left kids t key entered.before entered.after n keeps entered.there over
-    (has_before (stakes_of old.given) others kids has) entered.interns
+    subst (λ (rooms : Store). IsStore rooms left) (sym stored.rooms)
+    (interned_known old.rooms held left kids t key stored.before stored.after n keeps stored.there over
+    (has_before (stakes_of old.given) others kids has) stored.interns
     (exchanged_before (stakes_of old.given) (stakes_of new.given) others [] (stake n t ∷ [])
     (is.more t kids over has)))
 
 -- a new one has the stakes on its kids
 pub new_keeps : (old new last : NodesKept) (key : NodeKey) (n : ℕ) → AreKept old → IsAnswered old key n
     new.given
-    → HasKids old key → EntersIn old key (New n) new → last.rooms ≡ new.rooms
+    → HasKids old key → StoresIn old key (New n) new → last.rooms ≡ new.rooms
     → Exchanges (stakes_of new.given) (stakes_of last.given) (kid_stakes (ever new.given) key) []
     → (others : List Stake) → KeepsFor old others → KeepsFor last others
-new_keeps old new last key n is_kept is (t, kids, over, has) entered same taken others keeps =
+new_keeps old new last key n is_kept is (t, kids, over, has) stored same taken others keeps =
     let held = stakes_of old.given ++ others in
     let left = stakes_of last.given ++ others in
-    subst (λ (rooms : Store). IsStore rooms left) (sym (same ∙ entered.rooms))
-    (interned_new old.rooms held left kids t key entered.before entered.after n keeps entered.there over
-    (has_before (stakes_of old.given) others kids has) entered.interns
+    subst (λ (rooms : Store). IsStore rooms left) (sym (same ∙ stored.rooms))
+    (interned_new old.rooms held left kids t key stored.before stored.after n keeps stored.there over
+    (has_before (stakes_of old.given) others kids has) stored.interns
     (exchanged_before (stakes_of old.given) (stakes_of last.given) others kids (stake n t ∷ [])
     (gives_stake old new key n is_kept is t kids over has last.given taken)))
 
@@ -185,15 +185,15 @@ rises r q key (Known n) (c, has, below, is) = let next = ap (λ (x : Room). x.ne
 rises r q key (New n) (absent, below, number, is) = let next = ap (λ (x : Room). x.next) is in
     omega (arith, next)
 
-pub entered_next : (old new : NodesKept) (key : NodeKey) (answer : Interned) → EntersIn old key answer new
+pub stored_next : (old new : NodesKept) (key : NodeKey) (answer : Interned) → StoresIn old key answer new
     → NextNeverFalls old new
-entered_next old new key answer entered =
-    subst (λ (rooms : Store). NextNeverFalls old (kept rooms new.given)) (sym entered.rooms)
-    (next_kept old.rooms (room key) entered.before entered.after entered.there
-    (rises entered.before entered.after key answer entered.interns) old.given new.given)
+stored_next old new key answer stored =
+    subst (λ (rooms : Store). NextNeverFalls old (kept rooms new.given)) (sym stored.rooms)
+    (next_kept old.rooms (room key) stored.before stored.after stored.there
+    (rises stored.before stored.after key answer stored.interns) old.given new.given)
 
 pub refused_next : (old new : NodesKept) (key : NodeKey) (fault : ShardFault)
-    → EntersKey old key (Err fault) new
+    → StoresKey old key (Err fault) new
     → NextNeverFalls old new
 refused_next old new key Memory is = same_next old new (ap (λ (s : NodesKept). s.rooms) is)
 refused_next old new key (Spent v) (spent, is) = same_next old new (ap (λ (s : NodesKept). s.rooms) is)
@@ -212,17 +212,17 @@ fresh_by old key (New n) r q is_kept there others keeps interns =
     (list_there old key r is_kept there))
 
 pub answers_key : (old new last : NodesKept) (key : NodeKey) (answer : Interned) → AreKept old
-    → ((others : List Stake) × KeepsFor old others) → EntersIn old key answer new
+    → ((others : List Stake) × KeepsFor old others) → StoresIn old key answer new
     → IsAnswered old key (answered_number answer) new.given → ever last.given ≡ ever new.given
     → AnswersKey old key (Ok answer) last
-answers_key old new last key answer is_kept (others, keeps) entered is same = record {
-  before = entered.before;
-  after = entered.after;
-  there = entered.there;
-  interns = entered.interns;
+answers_key old new last key answer is_kept (others, keeps) stored is same = record {
+  before = stored.before;
+  after = stored.after;
+  there = stored.there;
+  interns = stored.interns;
   key_is = ap (λ (at : KeyAt). at (answered_number answer)) same ∙ is.key_is;
-  fresh = fresh_by old key answer entered.before entered.after is_kept entered.there others keeps
-      entered.interns;
+  fresh = fresh_by old key answer stored.before stored.after is_kept stored.there others keeps
+      stored.interns;
 }
 
 pub keeps_numbers : (old new last : NodesKept) (key : NodeKey) (n : ℕ) → IsAnswered old key n new.given

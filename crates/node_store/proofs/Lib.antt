@@ -1,5 +1,5 @@
 pub mod Dropping
-pub mod Entering
+pub mod Storing
 pub mod Exchanging
 pub mod GivenEntries
 pub mod HandingOver

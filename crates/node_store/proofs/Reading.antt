@@ -1,5 +1,5 @@
 -- What is held stands for its tree among the keys ever given, so that it is read there.
-use Rattle.std.proofs.Common.{◌≡◌, ℕ, ◌++◌, List, Contains, Option, Some, sym, ap, ◌∙◌, option_map}
+use Rattle.std.proofs.Common.{◌≡◌, ℕ, ◌++◌, List, Contains, Some, sym, ap, ◌∙◌, option_map}
 use Rattle.node_key.specs.declared.stake.Stake.{Stake}
 use Rattle.node_key.specs.Stands.{Stands}
 use Rattle.node_key.specs.declared.key.NodeKey.{NodeKey}

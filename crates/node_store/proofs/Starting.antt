@@ -1,4 +1,4 @@
--- A store before anything is entered.
+-- A store before anything is stored.
 use Rattle.std.proofs.Common.{◌≡◌, inl, inr, ℕ, zero, suc, ◌≤◌, ◌%◌, List, [], ◌∷◌, ◌++◌, length, replicate}
 use Rattle.std.proofs.Common.{Option, Some, None, refl, sym, ap, ◌∙◌, arith, subst, slice_get, option_map}
 use Rattle.std.proofs.Common.{option_and_then}

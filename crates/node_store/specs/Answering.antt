@@ -71,7 +71,7 @@ given_after g key (New n) = with_last g (room key) (record { key = key; staked =
 given_after g key (Known n) = with_staked g n (staked_at g n + 1)
 
 -- the key's room answers, and there is one stake more on the number
-pub record EntersIn (old : NodesKept) (key : NodeKey) (answer : Interned) (new : NodesKept) : Type 0 where
+pub record StoresIn (old : NodesKept) (key : NodeKey) (answer : Interned) (new : NodesKept) : Type 0 where
   pub before : Room
   pub after : Room
   pub there : slice_get old.rooms (room key) ≡ Some before
@@ -79,10 +79,10 @@ pub record EntersIn (old : NodesKept) (key : NodeKey) (answer : Interned) (new :
   pub rooms : new.rooms ≡ slice_set old.rooms (room key) after
   pub given : new.given ≡ given_after old.given key answer
 
-abbrev pub EntersKey : NodesKept → NodeKey → Result Interned ShardFault → NodesKept → Type 0
-EntersKey old key (Ok answer) new = EntersIn old key answer new
-EntersKey old key (Err (Spent v)) new = IsSpentThere old key v × (new ≡ old)
-EntersKey old key (Err Memory) new = new ≡ old
+abbrev pub StoresKey : NodesKept → NodeKey → Result Interned ShardFault → NodesKept → Type 0
+StoresKey old key (Ok answer) new = StoresIn old key answer new
+StoresKey old key (Err (Spent v)) new = IsSpentThere old key v × (new ≡ old)
+StoresKey old key (Err Memory) new = new ≡ old
 
 -- one of the others that the store is kept for is on a number
 abbrev pub HasOther : NodesKept → ℕ → Type 0

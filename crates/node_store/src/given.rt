@@ -42,7 +42,7 @@ impl NumbersGiven {
         Ok(NumbersGiven { first, rooms })
     }
 
-    /// What was given under a number.
+    // What was given under a number.
     fn entry(&self, n: u64) -> Numbered
         requires { IsSome (given_entry self.now n) }
         ensures { given_entry self.now n ≡ Some result }
@@ -93,7 +93,7 @@ impl NumbersGiven {
         self.set_staked(n, staked + 1);
     }
 
-    /// Writes how many stakes the owner has on a number.
+    // Writes how many stakes the owner has on a number.
     fn set_staked(&mut self, n: u64, staked: u64)
         requires { IsSome (given_entry self.old n) }
         ensures { self.new ≡ with_staked self.old n staked }

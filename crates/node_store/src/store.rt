@@ -37,8 +37,8 @@ impl Model for NodeStore {
 
 impl NodeStore {
     ghost use Rattle.node_store.specs.Kept.{AreKept, KeepsFor, KeepsNumbers, NextNeverFalls};
-    ghost use Rattle.node_store.specs.Answering.{AnswersKey, EntersKey, GivesBack, GivesStake, HasKids};
-    ghost use Rattle.node_store.specs.Answering.{HasOther, HasStakeOn, TakesStake};
+    ghost use Rattle.node_store.specs.Answering.{AnswersKey, GivesBack, GivesStake, HasKids, HasOther};
+    ghost use Rattle.node_store.specs.Answering.{HasStakeOn, StoresKey, TakesStake};
     ghost use Rattle.node_store.specs.TreeUnder.{kid_stakes};
 
     /// A store without nodes, on which there are no stakes. Each room gives its numbers from the index
@@ -71,7 +71,7 @@ impl NodeStore {
         ensures next { NextNeverFalls self.old self.new }
         ensures sound { AreKept self.new }
     {
-        let answer = self.enter(key)?;
+        let answer = self.store_key(key)?;
         match answer {
             Interned::Known(_) => self.release_kids(&key),
             Interned::New(_) => self.hand_over_kids(&key),
@@ -79,12 +79,12 @@ impl NodeStore {
         Ok(answer)
     }
 
-    /// Enters a key in its room, with one stake of the owner more on its number. The memory for the number
-    /// comes first, so that nothing is left half done.
-    fn enter(&mut self, key: NodeKey) -> Result<Interned, ShardFault>
+    // Stores a key in its room, with one stake of the owner more on its number. The memory for the number
+    // comes first, so that nothing is left half done.
+    fn store_key(&mut self, key: NodeKey) -> Result<Interned, ShardFault>
         requires kids { HasKids self.old key }
         requires kept { (others : List Stake) × KeepsFor self.old others }
-        ensures entered { EntersKey self.old key result self.new }
+        ensures stored { StoresKey self.old key result self.new }
         ensures before { AreKept self.old }
         ensures sound { AreKept self.new }
     {
@@ -105,7 +105,7 @@ impl NodeStore {
         }
     }
 
-    /// Gives back one of the owner's stakes on each kid of a key.
+    // Gives back one of the owner's stakes on each kid of a key.
     fn release_kids(&mut self, key: &NodeKey)
         requires sound { AreKept self.old }
         requires staked { HasStakes (stakes_of self.old.given) (kid_stakes (ever self.old.given) key.now) }
@@ -122,7 +122,7 @@ impl NodeStore {
         }
     }
 
-    /// Counts one of the owner's stakes on each kid of a key elsewhere.
+    // Counts one of the owner's stakes on each kid of a key elsewhere.
     fn hand_over_kids(&mut self, key: &NodeKey)
         requires sound { AreKept self.old }
         requires staked { HasStakes (stakes_of self.old.given) (kid_stakes (ever self.old.given) key.now) }

@@ -52,7 +52,7 @@ impl Hash for HashedKey {
     }
 }
 
-/// A digest with one kid more.
+// A digest with one kid more.
 fn mix(so_far: u64, kid: Kid) -> u64
     ensures { result ≡ mixed so_far kid }
 {
@@ -64,7 +64,7 @@ fn mix(so_far: u64, kid: Kid) -> u64
     (so_far ^ parts).wrapping_mul(GAP_FACTOR)
 }
 
-/// A number that tells most keys apart: of the function, the duration and the kids that are there.
+// A number that tells most keys apart: of the function, the duration and the kids that are there.
 fn digest(key: &NodeKey) -> u64
     ensures { result ≡ digest key.now }
 {

@@ -44,7 +44,7 @@ impl Model for Shard {
     ghost invariant = { λ a. IsSound (room_of a.room a.next a.nodes) };
 }
 
-/// Raises the count at a place by one.
+// Raises the count at a place by one.
 fn raise(nodes: &mut Nodes, place: usize) -> Result<Interned, ShardFault>
     requires { place < length nodes.old }
     ensures full { (n : ℕ) (s : Stored) → slice_get nodes.old place ≡ Some (n, s) → MAX_COUNT ≤ s.count

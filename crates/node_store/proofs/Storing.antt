@@ -1,4 +1,4 @@
--- A key is entered in its room.
+-- A key is stored in its room.
 use Rattle.std.proofs.Common.{◌≡◌, inl, inr, ℕ, ◌+◌, ◌*◌, ◌%◌, ◌<◌, ◌≤◌, ◌^◌, List, [], Contains, get_or}
 use Rattle.std.proofs.Common.{length}
 use Rattle.std.proofs.Common.{Some, Ok, Err, IsSome, is_some, sym, ap, ◌∙◌, arith, subst, slice_get}
@@ -23,7 +23,7 @@ use Rattle.store_laws.specs.Store.{node_in}
 use Rattle.store_laws.proofs.StepsInRooms.{node_in_room}
 use Rattle.store_laws.proofs.StepsOfKids.{KidsStand-staked, numbers}
 use Rattle.store_laws.proofs.SumsOfStakes.{times_from_there}
-use Rattle.node_store.specs.Answering.{EntersIn, EntersKey, HasKids}
+use Rattle.node_store.specs.Answering.{StoresIn, StoresKey, HasKids}
 use Rattle.node_store.specs.Changes.{with_last, with_staked}
 use Rattle.node_store.specs.Given.{Given, ever, given_entry, staked_at, stakes_of}
 use Rattle.node_store.specs.Kept.{AreKept, KeepsFor, NodesKept}
@@ -132,7 +132,7 @@ module _ (s : NodesKept) (key : NodeKey) (r : Room) (is_kept : AreKept s)
       ∙ set-get_or s.rooms (room key) r
 
   pub refused : (fault : ShardFault) (q : Room) (g : Given) → Interns r key (Err fault) q → g ≡ s.given
-      → EntersKey s key (Err fault) (kept (slice_set s.rooms (room key) q) g)
+      → StoresKey s key (Err fault) (kept (slice_set s.rooms (room key) q) g)
   refused Memory q g (absent, below, is) same =
       let rooms = room_again q is in λ i. kept (rooms i) (same i)
   refused (Spent v) q g (spent, is) same =
@@ -148,7 +148,7 @@ key_room s key i r is_kept at low is =
     slice_get_read s.rooms STORE_ROOMS (room key) r (sym is_kept.count) low
     (is ∙ ap (λ (j : ℕ). get_or s.rooms j r) at)
 
--- what the code knows where it enters a key: the view of its fields, the room of the key, and its answer
+-- what the code knows where it stores a key: the view of its fields, the room of the key, and its answer
 pub record IsAsked (s old : NodesKept) (key : NodeKey) (i : ℕ) (r : Room) : Type 0 where
   pub view : s ≡ old
   pub sound : AreKept s
@@ -157,24 +157,11 @@ pub record IsAsked (s old : NodesKept) (key : NodeKey) (i : ℕ) (r : Room) : Ty
   pub keeps : KeepsFor old others
   pub room_is : i ≡ room key
   pub room_at : r ≡ get_or s.rooms i r
+  pub low : i < STORE_ROOMS
 
-pub asked : (s old : NodesKept) (key : NodeKey) (i j : ℕ) (r : Room) → s ≡ old → AreKept s → HasKids old key
-    → ((others : List Stake) × KeepsFor old others) → i ≡ j → j ≡ room key → r ≡ get_or s.rooms i r
-    → IsAsked s old key i r
-asked s old key i j r view sound has keeps same is at = record {
-  view = view;
-  sound = sound;
-  has = has;
-  others = keeps.0;
-  keeps = keeps.1;
-  room_is = same ∙ is;
-  room_at = at;
-}
-
-module _ (s old : NodesKept) (key : NodeKey) (i : ℕ) (r q : Room) (asked : IsAsked s old key i r)
-    (low : i < STORE_ROOMS) where
+module _ {s old : NodesKept} {key : NodeKey} {i : ℕ} {r : Room} (asked : IsAsked s old key i r) (q : Room) where
   own_room : slice_get s.rooms (room key) ≡ Some r
-  own_room = key_room s key i r asked.sound asked.room_is (omega (arith, low, asked.room_is)) asked.room_at
+  own_room = key_room s key i r asked.sound asked.room_is (omega (arith, asked.low, asked.room_is)) asked.room_at
 
   has_now : HasKids s key
   has_now = subst (λ (p : NodesKept). HasKids p key) (sym asked.view) asked.has
@@ -195,10 +182,10 @@ module _ (s old : NodesKept) (key : NodeKey) (i : ℕ) (r q : Room) (asked : IsA
       (at_room (λ j. AreKept (kept (slice_set s.rooms j q) (with_last s.given j (first_of key))))
       (sound_new s key r asked.sound own_room n q asked.others has_now keeps_now interns))
 
-  pub new_entered : (n : ℕ) (g : Given) → Interns r key (Ok (New n)) q → g ≡ with_last s.given i
+  pub new_stored : (n : ℕ) (g : Given) → Interns r key (Ok (New n)) q → g ≡ with_last s.given i
       (first_of key)
-      → EntersIn old key (New n) (kept (slice_set s.rooms i q) g)
-  new_entered n g interns is = record {
+      → StoresIn old key (New n) (kept (slice_set s.rooms i q) g)
+  new_stored n g interns is = record {
     before = r;
     after = q;
     there = old_room;
@@ -215,7 +202,7 @@ module _ (s old : NodesKept) (key : NodeKey) (i : ℕ) (r q : Room) (asked : IsA
       let entry = known_entry s key r asked.sound own_room n q asked.others keeps_now interns in (
         s.given,
         first_of key,
-        omega (arith, low, asked.sound.lists),
+        omega (arith, asked.low, asked.sound.lists),
         is,
         ap (is_some {T = Numbered}) entry.1,
         staked_fits s key r asked.sound own_room n q asked.others keeps_now interns,
@@ -228,10 +215,10 @@ module _ (s old : NodesKept) (key : NodeKey) (i : ℕ) (r q : Room) (asked : IsA
       (at_room (λ j. AreKept (kept (slice_set s.rooms j q) (with_staked s.given n (staked_at s.given n + 1))))
       (sound_known s key r asked.sound own_room n q asked.others keeps_now interns))
 
-  pub known_entered : (n : ℕ) (g : Given) → Interns r key (Ok (Known n)) q
+  pub known_stored : (n : ℕ) (g : Given) → Interns r key (Ok (Known n)) q
       → g ≡ with_staked s.given n (staked_at s.given n + 1)
-      → EntersIn old key (Known n) (kept (slice_set s.rooms i q) g)
-  known_entered n g interns is = record {
+      → StoresIn old key (Known n) (kept (slice_set s.rooms i q) g)
+  known_stored n g interns is = record {
     before = r;
     after = q;
     there = old_room;
@@ -241,8 +228,8 @@ module _ (s old : NodesKept) (key : NodeKey) (i : ℕ) (r q : Room) (asked : IsA
   }
 
   pub refused_so : (fault : ShardFault) (g : Given) → Interns r key (Err fault) q → g ≡ s.given
-      → EntersKey old key (Err fault) (kept (slice_set s.rooms i q) g)
+      → StoresKey old key (Err fault) (kept (slice_set s.rooms i q) g)
   refused_so fault g interns is =
-      subst (λ (p : NodesKept). EntersKey p key (Err fault) (kept (slice_set s.rooms i q) g)) asked.view
-      (at_room (λ j. EntersKey s key (Err fault) (kept (slice_set s.rooms j q) g))
+      subst (λ (p : NodesKept). StoresKey p key (Err fault) (kept (slice_set s.rooms i q) g)) asked.view
+      (at_room (λ j. StoresKey s key (Err fault) (kept (slice_set s.rooms j q) g))
       (refused s key r asked.sound own_room fault q g interns is))
