@@ -9,7 +9,7 @@ use node_key::{CallTree, Item};
 use std::alloc::Global;
 use trace_base::{Event, Memory, Seq, TrackStream};
 
-/// An open call that ends at `stop`.
+// An open call that ends at `stop`.
 fn close(alloc: Global, innermost: Open, stop: u64) -> Result<Item, Memory>
     requires { CanClose innermost stop }
     ensures { IfOk result (λ i. i ≡ closed_item innermost stop) }
@@ -20,7 +20,7 @@ fn close(alloc: Global, innermost: Open, stop: u64) -> Result<Item, Memory>
     Ok(Item { at: start, tree })
 }
 
-/// Takes the open calls over one event: `around` has those round the innermost one, which stands by itself.
+// Takes the open calls over one event: `around` has those round the innermost one, which stands by itself.
 fn step(
     alloc: Global,
     around: &mut Vec<Open>,
@@ -49,7 +49,7 @@ fn step(
     }
 }
 
-/// An open call with one more call in it.
+// An open call with one more call in it.
 fn with_item(innermost: Open, item: Item) -> Result<Open, Memory>
     ensures { IfOk result (λ now. now ≡ record {
       func = innermost.func;

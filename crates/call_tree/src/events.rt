@@ -6,7 +6,7 @@ use node_key::CallTree;
 use std::alloc::Global;
 use trace_base::{Event, MAX_TIME, Memory, Seq};
 
-/// Adds the Enter of a call, and nothing for a group.
+// Adds the Enter of a call, and nothing for a group.
 fn push_enter(list: &mut Seq<Event>, func: u32, time: u64) -> Result<(), Memory>
     ensures { OnOk result (list.new ≡ list.old ++ (if func == 0 then [] else Enter func time ∷ [])) }
 {
@@ -16,7 +16,7 @@ fn push_enter(list: &mut Seq<Event>, func: u32, time: u64) -> Result<(), Memory>
     list.push(Event::Enter(func, time))
 }
 
-/// Adds the Leave of a call, and nothing for a group.
+// Adds the Leave of a call, and nothing for a group.
 fn push_leave(list: &mut Seq<Event>, func: u32, time: u64) -> Result<(), Memory>
     ensures { OnOk result (list.new ≡ list.old ++ (if func == 0 then [] else Leave time ∷ [])) }
 {
@@ -26,7 +26,7 @@ fn push_leave(list: &mut Seq<Event>, func: u32, time: u64) -> Result<(), Memory>
     list.push(Event::Leave(time))
 }
 
-/// Adds the events of a tree that begins at `at`.
+// Adds the events of a tree that begins at `at`.
 fn push_events(list: &mut Seq<Event>, t: &CallTree, at: u64) -> Result<(), Memory>
     requires { at + t.now.dur ≤ MAX_TIME }
     ensures { OnOk result (list.new ≡ list.old ++ events t.now at) }

@@ -10,7 +10,7 @@ use std::alloc::Global;
 use std::vec::IntoIter;
 use trace_base::{MAX_TIME, Memory, Seq};
 
-/// When the first item begins, in nanoseconds.
+// When the first item begins, in nanoseconds.
 fn start(items: &[Item]) -> u64
     requires { 0 < length items.now }
     ensures { result ≡ start_of items.now }
@@ -18,7 +18,7 @@ fn start(items: &[Item]) -> u64
     items[0].at
 }
 
-/// When the last item ends, in nanoseconds.
+// When the last item ends, in nanoseconds.
 fn stop(items: &[Item]) -> u64
     requires some { 0 < length items.now }
     requires placed { FitBetween 0 MAX_TIME items.now }
@@ -28,7 +28,7 @@ fn stop(items: &[Item]) -> u64
     last.at + last.tree.dur()
 }
 
-/// A chunk as one item: a group where it has several.
+// A chunk as one item: a group where it has several.
 fn group_of(alloc: Global, mut chunk: Seq<Item>) -> Result<Item, Memory>
     requires some { 0 < length chunk }
     requires few { length chunk ≤ MAX_KIDS }
@@ -48,7 +48,7 @@ fn group_of(alloc: Global, mut chunk: Seq<Item>) -> Result<Item, Memory>
     Ok(Item { at, tree })
 }
 
-/// Takes the next 8 items, or those that are left.
+// Takes the next 8 items, or those that are left.
 fn next_chunk(alloc: Global, items: &mut IntoIter<Item>) -> Result<Seq<Item>, Memory>
     ensures chunk { IfOk result (λ c. c ≡ take MAX_KIDS (into_iter_items items.old)) }
     ensures rest { OnOk result (into_iter_items items.new ≡ drop MAX_KIDS (into_iter_items items.old)) }

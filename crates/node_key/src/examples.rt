@@ -1,5 +1,5 @@
-//! The definitions, computed on small trees and keys. Each clause is the equation; the bodies are empty, but for
-//! those that make a key.
+//! The definitions, computed on small trees and keys. Each clause is the equation; the bodies are empty, but
+//! for those that make a key.
 ghost use Rattle.std.specs.Prelude.{◌≡◌, ◌∷◌, []};
 ghost use Rattle.node_key.specs.Tree.{height, nodes, total};
 ghost use Rattle.node_key.specs.Keys.{IsKeyOf, different_subtrees, distinct};

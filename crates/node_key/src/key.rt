@@ -38,7 +38,7 @@ const NO_KID: Kid = Kid {
 impl NodeKey {
     ghost use Rattle.std.specs.Prelude.{length, take};
 
-    /// The key of a node without kids: of a call of `func`, or of a group where that is 0, which takes so many
+    /// The key of a node without kids: of a call of `func`, or of a group where that is 0, which takes `dur`
     /// nanoseconds.
     pub fn leaf(func: u32, dur: u64) -> NodeKey
         ensures func { result.func ≡ func }

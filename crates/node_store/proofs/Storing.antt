@@ -159,9 +159,11 @@ pub record IsAsked (s old : NodesKept) (key : NodeKey) (i : ℕ) (r : Room) : Ty
   pub room_at : r ≡ get_or s.rooms i r
   pub low : i < STORE_ROOMS
 
-module _ {s old : NodesKept} {key : NodeKey} {i : ℕ} {r : Room} (asked : IsAsked s old key i r) (q : Room) where
+module _ {s old : NodesKept} {key : NodeKey} {i : ℕ} {r : Room} (asked : IsAsked s old key i r) (q : Room)
+  where
   own_room : slice_get s.rooms (room key) ≡ Some r
-  own_room = key_room s key i r asked.sound asked.room_is (omega (arith, asked.low, asked.room_is)) asked.room_at
+  own_room = key_room s key i r asked.sound asked.room_is (omega (arith, asked.low, asked.room_is))
+      asked.room_at
 
   has_now : HasKids s key
   has_now = subst (λ (p : NodesKept). HasKids p key) (sym asked.view) asked.has

@@ -1,4 +1,4 @@
--- A node more, over staked kids: their stakes are used up, and there is one on its number.
+-- A node more, over staked kids: their stakes are handed over, and there is one on its number.
 use Rattle.std.proofs.Common.{◌≡◌, ◌⊎◌, inl, inr, ℕ, zero, suc, ◌+◌, List, [], ◌∷◌, Contains, Some, None}
 use Rattle.std.proofs.Common.{option_map, refl, sum_by, sym, ap, ◌∙◌, arith, subst}
 use Rattle.std.proofs.lemmas.Bool.{cases_eq}

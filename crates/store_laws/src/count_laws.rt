@@ -34,8 +34,8 @@ pub fn nothing_is_a_store()
     ensures { (first : ℕ) → first ≤ MAX_NUMBERS → IsStore (empty_store first) [] }
 {}
 
-/// A key over staked kids is entered in its room. Where it is new its kids' stakes are used up, and there is
-/// one on the new number; where it is known there is one more.
+/// A key over staked kids is entered in its room. Where it is new its kids' stakes are handed over, and there
+/// is one on the new number; where it is known there is one more.
 pub fn interning()
     ensures new { (rooms : Store) (held left kids : List Stake) (t : Tree) (key : NodeKey) (old r : Room)
         (n : ℕ) → IsStore rooms held → slice_get rooms (room key) ≡ Some old → IsOverStakes t kids key

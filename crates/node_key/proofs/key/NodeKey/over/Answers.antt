@@ -1,4 +1,5 @@
-use Rattle.std.proofs.Common.{◌≡◌, ◌+◌, ◌-◌, ◌≤◌, ◌++◌, List, arith, drop, length, replicate, subst, sum_by, sym}
+use Rattle.std.proofs.Common.{◌≡◌, ◌+◌, ◌-◌, ◌≤◌, ◌++◌, List, arith, drop, length, replicate, subst}
+use Rattle.std.proofs.Common.{sum_by, sym}
 use Rattle.node_key.specs.declared.key.Kid.{Kid}
 use Rattle.node_key.proofs.KeyKids.{filled-behind, filled-within, no_kid}
 use Rattle.node_key.proofs.key.NodeKey.over.Goals as goal
@@ -8,7 +9,8 @@ invariant_of-result c =
     let kids = c.args.kids.now in
     let behind = drop (length kids) (replicate 8 no_kid) in record {
       few = c.requires.few;
-      zero_past = subst (λ (l : List Kid). drop (length kids) (l ++ behind) ≡ replicate (8 - length kids) no_kid)
+      zero_past = subst
+          (λ (l : List Kid). drop (length kids) (l ++ behind) ≡ replicate (8 - length kids) no_kid)
           (sym c.copy_from_slice.ensures.after) (filled-behind kids);
       leaf = (
         λ e. absurd (omega (arith, e, c.requires.higher)),

@@ -31,8 +31,8 @@ pub release_kids-requires-clause-kept : goal.release_kids-requires-clause-kept
 release_kids-requires-clause-kept c = (
   c.requires.kept.0,
   known_keeps c.args.self.now c.store_key.new.self c.args.key c.in-Known.field-0
-      (answered c.args.self.now c.store_key.new.self c.args.key (Known c.in-Known.field-0) c.store_key.ensures.before
-      c.requires.kept
+      (answered c.args.self.now c.store_key.new.self c.args.key (Known c.in-Known.field-0)
+      c.store_key.ensures.before c.requires.kept
       (subst (λ (a : Interned). StoresIn c.args.self.now c.args.key a c.store_key.new.self) c.in-Known.is
       c.in_ok-answer.ensures.stored)) c.requires.kids
       (subst (λ (a : Interned). StoresIn c.args.self.now c.args.key a c.store_key.new.self) c.in-Known.is
@@ -71,8 +71,8 @@ pub returns-in-Known-clause-kept : goal.returns-in-Known-clause-kept
 returns-in-Known-clause-kept c =
     λ others keeps. c.release_kids.ensures.kept others (
     known_keeps c.args.self.now c.store_key.new.self c.args.key c.in-Known.field-0
-    (answered c.args.self.now c.store_key.new.self c.args.key (Known c.in-Known.field-0) c.store_key.ensures.before
-    c.requires.kept
+    (answered c.args.self.now c.store_key.new.self c.args.key (Known c.in-Known.field-0)
+    c.store_key.ensures.before c.requires.kept
     (subst (λ (a : Interned). StoresIn c.args.self.now c.args.key a c.store_key.new.self) c.in-Known.is
     c.in_ok-answer.ensures.stored)) c.requires.kids
     (subst (λ (a : Interned). StoresIn c.args.self.now c.args.key a c.store_key.new.self) c.in-Known.is
@@ -81,8 +81,8 @@ returns-in-Known-clause-kept c =
 
 pub returns-in-New-clause-answer : goal.returns-in-New-clause-answer
 returns-in-New-clause-answer c =
-    answers_key c.args.self.now c.store_key.new.self c.hand_over_kids.new.self c.args.key c.in_ok-answer.answer
-    c.store_key.ensures.before c.requires.kept c.in_ok-answer.ensures.stored
+    answers_key c.args.self.now c.store_key.new.self c.hand_over_kids.new.self c.args.key
+    c.in_ok-answer.answer c.store_key.ensures.before c.requires.kept c.in_ok-answer.ensures.stored
     (answered c.args.self.now c.store_key.new.self c.args.key c.in_ok-answer.answer c.store_key.ensures.before
     c.requires.kept c.in_ok-answer.ensures.stored) c.hand_over_kids.ensures.numbers
 
@@ -111,8 +111,8 @@ pub returns-in-New-clause-kept : goal.returns-in-New-clause-kept
 returns-in-New-clause-kept c =
     new_keeps c.args.self.now c.store_key.new.self c.hand_over_kids.new.self c.args.key c.in-New.field-0
     c.store_key.ensures.before
-    (answered c.args.self.now c.store_key.new.self c.args.key (New c.in-New.field-0) c.store_key.ensures.before
-    c.requires.kept
+    (answered c.args.self.now c.store_key.new.self c.args.key (New c.in-New.field-0)
+    c.store_key.ensures.before c.requires.kept
     (subst (λ (a : Interned). StoresIn c.args.self.now c.args.key a c.store_key.new.self) c.in-New.is
     c.in_ok-answer.ensures.stored)) c.requires.kids
     (subst (λ (a : Interned). StoresIn c.args.self.now c.args.key a c.store_key.new.self) c.in-New.is
