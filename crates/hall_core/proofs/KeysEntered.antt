@@ -15,7 +15,7 @@ use Rattle.shard_core.specs.declared.answers.ShardFault.TheVariants.{Memory, Spe
 use Rattle.store_laws.specs.Store.{IsCanonic, Store}
 use Rattle.hall_core.specs.Answering.{AnswersIntern}
 use Rattle.hall_core.specs.OneTree.{IsStakedTree}
-use Rattle.hall_core.specs.Steps.{InternsIn, Spends, number_told, used_up}
+use Rattle.hall_core.specs.Steps.{InternsIn, Spends, number_told, handed_over}
 use Rattle.hall_core.specs.declared.events.StepAnswer.{StepAnswer}
 use Rattle.hall_core.specs.declared.events.StepAnswer.TheVariants as answer
 use Rattle.hall_core.proofs.RoomsThere.{room-of-key}
@@ -50,7 +50,7 @@ entered rooms after key answer canonic does =
 -- a key that was entered, and the stake on its number
 pub interns-in : (rooms after : Store) (key : NodeKey) (i : Interned) (mine mine' kids : List Stake)
     (t : Tree) → Enters rooms key (Ok i) after → IsStakedTree mine key t kids
-    → Exchanges mine mine' (used_up i kids) (record { number = number_told i; tree = t } ∷ [])
+    → Exchanges mine mine' (handed_over i kids) (record { number = number_told i; tree = t } ∷ [])
     → InternsIn key i rooms mine after mine'
 interns-in rooms after key i mine mine' kids t (before, r, at, interns, is) staked swap = record {
   tree = t;

@@ -32,10 +32,10 @@ abbrev pub number_told : Interned → ℕ
 number_told (Known n) = n
 number_told (New n) = n
 
--- the stakes on the kids that are used up: of a new node, whose kids they are from then on
-abbrev pub used_up : Interned → List Stake → List Stake
-used_up (Known n) kids = []
-used_up (New n) kids = kids
+-- the stakes on the kids that are handed over: to a new node, whose kids they are from then on
+abbrev pub handed_over : Interned → List Stake → List Stake
+handed_over (Known n) kids = []
+handed_over (New n) kids = kids
 
 -- The key's room answers it, and there is a stake on its number, for a tree over stakes that are there.
 pub record InternsIn (key : NodeKey) (i : Interned) (rooms : Store) (mine : List Stake) (rooms' : Store)
@@ -49,7 +49,8 @@ pub record InternsIn (key : NodeKey) (i : Interned) (rooms : Store) (mine : List
   pub there : slice_get rooms (room key) ≡ Some before
   pub answered : Interns before key (Ok i) after
   pub rooms_now : rooms' ≡ slice_set rooms (room key) after
-  pub exchanged : Exchanges mine mine' (used_up i kids) (record { number = number_told i; tree = tree } ∷ [])
+  pub exchanged : Exchanges mine mine' (handed_over i kids)
+      (record { number = number_told i; tree = tree } ∷ [])
 
 -- this number is used up for the key in its room
 abbrev pub Spends : Store → NodeKey → ℕ → Type 0

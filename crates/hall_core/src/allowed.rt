@@ -8,7 +8,7 @@ use crate::reach::is_reached;
 use crate::stakes::{has_stake_on, is_staked};
 use crate::world::{SeatView, World};
 
-/// The seat of an index, if it hasn't ended.
+// The seat of an index, if it hasn't ended.
 fn active(w: &World, at: usize) -> Option<&SeatView>
     ensures some { IfSome result (λ seat. IsActive w.now at seat.now) }
     ensures none { IfNone result ((seat : Seat) → ¬ IsActive w.now at seat) }
@@ -17,7 +17,7 @@ fn active(w: &World, at: usize) -> Option<&SeatView>
     if seat.ended { None } else { Some(seat) }
 }
 
-/// Whether another seat may be joined to this one.
+// Whether another seat may be joined to this one.
 fn may_end(w: &World, actor: usize, other: usize) -> bool
     ensures { IsTrue result ↔ MayEnd w.now actor other }
 {

@@ -9,7 +9,7 @@ ghost use Rattle.store_laws.specs.Store.{IsCanonic, key_in};
 ghost use Rattle.hall_core.specs.Allowed.{Allows};
 ghost use Rattle.hall_core.specs.Answering.{AnswersDrop, AnswersIntern, WouldFree};
 ghost use Rattle.hall_core.specs.OneTree.{IsStakedTree, OneTreeEach};
-ghost use Rattle.hall_core.specs.Steps.{IsStep, number_told, used_up};
+ghost use Rattle.hall_core.specs.Steps.{IsStep, handed_over, number_told};
 ghost use Rattle.hall_core.specs.World.{IsGood};
 ghost use Rattle.hall_core.specs.declared.events.HallEvent.TheVariants as event;
 ghost use Rattle.hall_core.specs.declared.events.StepAnswer.TheVariants as answer;
@@ -25,14 +25,14 @@ use std::alloc::Global;
 use std::mem;
 use trace_base::{Memory, Seq};
 
-/// Adds the stake on the number of a key, for which there is space. The stakes on the kids of a new one are
-/// used up.
+// Adds the stake on the number of a key, for which there is space. The stakes on the kids of a new one are
+// handed over to it.
 fn add_interned(stakes: &mut Vec<Stake>, interned: Interned, key: &NodeKey, tree: CallTree)
     requires one { OneTreeEach stakes.old.items }
     requires staked { (kids : List Staked) × IsStakedTree stakes.old.items key.now tree kids }
     requires space { vec_len stakes.old < vec_capacity stakes.old }
     ensures { (kids : List Staked) → IsStakedTree stakes.old.items key.now tree kids
-        → Exchanges stakes.old.items stakes.new.items (used_up interned kids)
+        → Exchanges stakes.old.items stakes.new.items (handed_over interned kids)
         (record { number = number_told interned; tree = tree } ∷ []) }
 {
     let number = match interned {
@@ -45,7 +45,7 @@ fn add_interned(stakes: &mut Vec<Stake>, interned: Interned, key: &NodeKey, tree
     stakes.push_reserved(Stake { number, tree });
 }
 
-/// What a refused key is answered.
+// What a refused key is answered.
 fn refused(fault: ShardFault) -> StepAnswer
     ensures spent { (v : ℕ) → fault ≡ shard_fault.Spent v → result ≡ answer.Spent v }
     ensures memory { fault ≡ shard_fault.Memory → result ≡ answer.Memory }
@@ -56,7 +56,7 @@ fn refused(fault: ShardFault) -> StepAnswer
     }
 }
 
-/// Enters a key of a tree over the stakes, for a stake on its number.
+// Enters a key of a tree over the stakes, for a stake on its number.
 fn intern_in(
     alloc: Global,
     rooms: &mut Seq<Shard>,
@@ -99,7 +99,7 @@ pub(crate) fn intern(alloc: Global, w: &mut World, actor: usize, key: NodeKey) -
     answer
 }
 
-/// The stakes that come free where this stake is the last count of its node; none where it isn't.
+// The stakes that come free where this stake is the last count of its node; none where it isn't.
 fn freed(alloc: Global, rooms: &[Shard], stakes: &[Stake], n: u64) -> Result<Vec<Stake>, Memory>
     requires there { (x : Staked) × Contains stakes.now x × (x.number ≡ n) }
     requires store { (x : Staked) → Contains stakes.now x → Stands (key_in rooms.now) x.number x.tree }
@@ -115,7 +115,7 @@ fn freed(alloc: Global, rooms: &[Shard], stakes: &[Stake], n: u64) -> Result<Vec
     }
 }
 
-/// Takes a stake on the number out, and adds those that come free, for which there is space.
+// Takes a stake on the number out, and adds those that come free, for which there is space.
 fn exchange(stakes: &mut Vec<Stake>, n: u64, mut kids: Vec<Stake>)
     requires one { OneTreeEach stakes.old.items }
     requires there { (x : Staked) × Contains stakes.old.items x × (x.number ≡ n) }
@@ -129,7 +129,7 @@ fn exchange(stakes: &mut Vec<Stake>, n: u64, mut kids: Vec<Stake>)
     }
 }
 
-/// Gives back a stake on the number.
+// Gives back a stake on the number.
 fn give_back_in(
     alloc: Global,
     rooms: &mut Seq<Shard>,

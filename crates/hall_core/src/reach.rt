@@ -9,7 +9,7 @@ use crate::rooms::node;
 use node_key::{CallTree, Stake};
 use shard_core::Shard;
 
-/// Whether a number that stands for this tree leads to another one: is that, or has a kid that leads to it.
+// Whether a number that stands for this tree leads to another one: is that, or has a kid that leads to it.
 fn leads(rooms: &[Shard], n: u64, tree: &CallTree, target: u64) -> bool
     requires { Stands (key_in rooms.now) n tree.now }
     ensures { IsTrue result ↔ IsReached rooms.now (record { number = n; tree = tree.now } ∷ []) target }

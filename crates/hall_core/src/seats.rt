@@ -27,7 +27,7 @@ pub(crate) fn split(alloc: Global, w: &mut World, actor: usize) -> StepAnswer
     }
 }
 
-/// Moves all stakes of one seat to another. On `Memory` each keeps its own.
+// Moves all stakes of one seat to another. On `Memory` each keeps its own.
 fn move_stakes(alloc: Global, seats: &mut Vec<SeatView>, from: usize, to: usize) -> bool
     requires apart { from ≢ to }
     requires there { (from < length seats.old.items) × (to < length seats.old.items) }

@@ -34,14 +34,14 @@ pub(crate) fn tree_on(stakes: &[Stake], n: u64) -> Option<&CallTree>
     None
 }
 
-/// How many stakes there are on this number.
+// How many stakes there are on this number.
 fn count_on(stakes: &[Stake], n: u64) -> usize
     ensures { result ≡ stakes_on n stakes.now }
 {
     stakes.iter().filter(|x| x.number == n).count()
 }
 
-/// How many of the key's kids have this number.
+// How many of the key's kids have this number.
 fn kids_on(key: &NodeKey, n: u64) -> usize
     ensures { result ≡ count_by (λ k. k.node == n) (kids_in key.now) }
 {
@@ -51,8 +51,8 @@ fn kids_on(key: &NodeKey, n: u64) -> usize
         .count()
 }
 
-/// The tree of the stakes on a kid of the key, if it has the kid's span and the key names its number no more
-/// often than there are stakes on it.
+// The tree of the stakes on a kid of the key, if it has the kid's span and the key names its number no more
+// often than there are stakes on it.
 fn kid_tree<'a>(stakes: &'a [Stake], key: &NodeKey, kid: Kid) -> Option<&'a CallTree>
     requires { OneTreeEach stakes.now }
     ensures some { IfSome result (λ t. Contains stakes.now (record { number = kid.node; tree = t.now })

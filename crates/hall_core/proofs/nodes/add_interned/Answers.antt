@@ -3,7 +3,7 @@ use Rattle.std.specs.Vec.{vec_capacity, vec_len}
 use Rattle.node_key.specs.Stakes.{Exchanges}
 use Rattle.node_key.specs.declared.stake.Stake.{Stake as Staked}
 use Rattle.shard_core.specs.declared.answers.Interned.{Interned}
-use Rattle.hall_core.specs.Steps.{number_told, used_up}
+use Rattle.hall_core.specs.Steps.{number_told, handed_over}
 use Rattle.hall_core.proofs.StakeLists.{exchanges-append, length-exchanged}
 use Rattle.hall_core.proofs.nodes.add_interned.Goals as goal
 use Rattle.hall_core.proofs.nodes.add_interned.Goals.{in-Known, in-New}
@@ -26,7 +26,7 @@ push_reserved-requires c = elim c.match-interned.branch [
 
 -- the number that a key has got or had, and the stakes that are left of the old ones
 abbrev IsLeft : Interned → List Staked → List Staked → ℕ → List Staked → Type 0
-IsLeft i kids old n left = (n ≡ number_told i) × Exchanges old left (used_up i kids) []
+IsLeft i kids old n left = (n ≡ number_told i) × Exchanges old left (handed_over i kids) []
 
 pub returns : goal.returns
 returns c kids staked =
@@ -48,12 +48,12 @@ returns c kids staked =
           )
     ] in
     subst
-    (λ (n : ℕ). Exchanges old c.push_reserved.new.self.items (used_up c.args.interned kids)
+    (λ (n : ℕ). Exchanges old c.push_reserved.new.self.items (handed_over c.args.interned kids)
     (record { number = n; tree = c.args.tree } ∷ []))
     left.0
     (subst
-    (λ (xs : List Staked). Exchanges old xs (used_up c.args.interned kids)
+    (λ (xs : List Staked). Exchanges old xs (handed_over c.args.interned kids)
     (record { number = c.match-interned.number; tree = c.args.tree } ∷ []))
     (sym c.push_reserved.ensures.items)
-    (exchanges-append old c.match-interned.stakes.items (used_up c.args.interned kids)
+    (exchanges-append old c.match-interned.stakes.items (handed_over c.args.interned kids)
     (record { number = c.match-interned.number; tree = c.args.tree } ∷ []) left.1))

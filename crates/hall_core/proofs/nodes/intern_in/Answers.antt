@@ -11,7 +11,7 @@ use Rattle.shard_core.specs.declared.answers.ShardFault.{ShardFault}
 use Rattle.store_laws.specs.Store.{Store}
 use Rattle.hall_core.specs.Answering.{AnswersIntern}
 use Rattle.hall_core.specs.OneTree.{IsStakedTree}
-use Rattle.hall_core.specs.Steps.{number_told, used_up}
+use Rattle.hall_core.specs.Steps.{number_told, handed_over}
 use Rattle.hall_core.specs.declared.events.StepAnswer.{StepAnswer}
 use Rattle.hall_core.proofs.KeysEntered.{Enters, entered, interns-in, refuses}
 use Rattle.hall_core.proofs.nodes.intern_in.Goals as goal
@@ -51,14 +51,14 @@ returns c =
           let own = subst (λ (u : Tree). IsStakedTree mine key u kids) (sym same) staked in
           let given = record { number = number_told i; tree = tree } ∷ [] in
           let swap = subst
-          (λ (xs : List Staked). Exchanges xs w.add_interned.new.stakes.items (used_up i kids) given) kept
+          (λ (xs : List Staked). Exchanges xs w.add_interned.new.stakes.items (handed_over i kids) given) kept
           (w.add_interned.ensures kids
           (subst (λ (xs : List Staked). IsStakedTree xs key tree kids) (sym kept) own)) in
           subst (λ (a : StepAnswer). AnswersIntern key a rooms mine after items) (sym w.answer-is)
           (interns-in rooms after key i mine items kids tree
           (subst (λ (a : Result Interned ShardFault). Enters rooms key a after) w.in-Ok-answer.is enters) own
-          (subst (λ (v : Vec Staked Global). Exchanges mine v.items (used_up i kids) given) (sym w.list-is)
-          swap)))
+          (subst (λ (v : Vec Staked Global). Exchanges mine v.items (handed_over i kids) given)
+          (sym w.list-is) swap)))
       | in-Err-answer w ↦ refuses rooms after key w.in-Err-answer.fault c.match-answer.answer mine items
           (subst (λ (a : Result Interned ShardFault). Enters rooms key a after) w.in-Err-answer.is enters)
           (ap (λ (v : Vec Staked Global). v.items) w.list-is ∙ kept)
