@@ -1,9 +1,8 @@
 -- How the bytes taken by one step after another add up.
-use Rattle.std.proofs.Common.{◌≡◌, refl, ap, ◌∙◌, sym, ℕ, ◌≤◌, List, [], ◌∷◌, ◌++◌, append_assoc, Option}
-use Rattle.std.proofs.Common.{None, Some, arith}
-use Rattle.trace_base.specs.Outside.{Told, Rose}
+use Rattle.std.proofs.Common.{◌≡◌, refl, ap, ◌∙◌, sym, ℕ, List, [], ◌∷◌, ◌++◌, append_assoc, Option}
+use Rattle.std.proofs.Common.{None, Some}
+use Rattle.trace_base.specs.Outside.{Told}
 use Rattle.request_reader.specs.Incoming.{Takes, left_to_read}
-use Rattle.request_reader.specs.Skipping.{NothingLeft}
 
 -- two steps in a row
 pub takes-then : (P Q R : List ℕ → Type 0) (a b c : Option (List ℕ)) → Takes a b P → Takes b c Q →
@@ -28,23 +27,6 @@ takes-byte P Q None (Some y) c x h k more = absurd h
 takes-byte P Q (Some u) None c x h k more = absurd h
 takes-byte P Q (Some u) (Some y) None x h k more = absurd k
 
--- the end of the source takes nothing
-pub takes-end : (P : List ℕ → Type 0) (a b c : Option (List ℕ)) → Takes a b P
-    → Told b c (λ was now. (was ≡ []) × (now ≡ [])) →
-    Takes a c P × NothingLeft c
-takes-end P None None None h k = (tt, λ some. absurd (some refl))
-takes-end P (Some u) (Some y) (Some z) h k =
-    ((h.0, h.1 ∙ ap (λ l. h.0 ++ l) (k.0 ∙ sym k.1), h.2), λ some. ap (λ l. Some l) k.1)
-takes-end P None None (Some z) h k = absurd k
-takes-end P None (Some y) c h k = absurd h
-takes-end P (Some u) None c h k = absurd h
-takes-end P (Some u) (Some y) None h k = absurd k
-
--- no step takes nothing
-pub takes-nothing : (P : List ℕ → Type 0) (a : Option (List ℕ)) → P [] → Takes a a P
-takes-nothing P None h = tt
-takes-nothing P (Some x) h = ([], refl, h)
-
 -- what is true of the bytes taken
 pub takes-so : (P Q : List ℕ → Type 0) (a b : Option (List ℕ)) → Takes a b P → ((s : List ℕ) → P s → Q s)
     → Takes a b Q
@@ -52,10 +34,6 @@ takes-so P Q None None h so = tt
 takes-so P Q (Some x) (Some y) h so = (h.0, h.1, so h.0 h.2)
 takes-so P Q None (Some y) h so = absurd h
 takes-so P Q (Some x) None h so = absurd h
-
--- a fault after other steps
-pub rose-after : (a b c : ℕ) → a ≤ b → Rose b c → Rose a c
-rose-after a b c h r = grind (arith, r)
 
 -- bytes that waited were taken
 pub takes-moved : (was now moved : List ℕ) (left : Option (List ℕ)) → was ≡ moved ++ now
