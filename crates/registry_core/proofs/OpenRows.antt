@@ -21,7 +21,7 @@ use Rattle.hall_history.specs.History.{EntryOf, is_open, open_ids, opened_ids, t
 use Rattle.registry_core.specs.Closing.{rows_of}
 use Rattle.registry_core.specs.Registry.{RegistryValue, is_open_trace, open_count, open_trace}
 use Rattle.registry_core.specs.Standing.{KeepsTrace, RootsAre, StandsFor, Start, row_told}
-use Rattle.registry_core.specs.Trace.{IsSoundTrace, Trace, row_of}
+use Rattle.registry_core.specs.Trace.{IsSoundTrace, Trace, list_row}
 use Rattle.registry_core.proofs.FilteredLists.{rising-filter}
 use Rattle.registry_core.proofs.KeepsMore.{tracks_told}
 use Rattle.registry_core.proofs.KeptTraces.{ids_of, kept_each}
@@ -115,7 +115,7 @@ open_count_told are start r entries stands =
 
 -- the row of a trace is told
 row_is : {X : Type 0} (are : RootsAre X) (start : Start) (place : ℕ) (entries : List (EntryOf X)) (t : Trace)
-    → KeepsTrace are start entries t → IsSoundTrace place t → row_of t ≡ row_told entries t.id
+    → KeepsTrace are start entries t → IsSoundTrace place t → list_row t ≡ row_told entries t.id
 row_is are start place entries t keeps sound =
     let tracks : length t.tracks ≡ tracks_of entries t.id = sound.tracks
     ∙ sym (tracks_told entries t.id t.info keeps.info) in
@@ -126,10 +126,10 @@ pub rows_told : {X : Type 0} (are : RootsAre X) (start : Start) (r : RegistryVal
     (entries : List (EntryOf X)) → StandsFor are start r entries
     → rows_of r ≡ map (row_told entries) (open_ids entries)
 rows_told are start r entries stands =
-    let each : All (λ t. row_of t ≡ row_told entries t.id) r.traces = λ k d lt.
+    let each : All (λ t. list_row t ≡ row_told entries t.id) r.traces = λ k d lt.
     let t = get_or r.traces k d in
     row_is are start r.place entries t
     (stands.traces t.id t (kept_each r.traces stands.sound.rising k d lt)) (stands.sound.each k d lt) in
-    map_told (λ (t : Trace). t.id) row_of (row_told entries) (filter is_open_trace r.traces)
-    (All-filter is_open_trace (λ t. row_of t ≡ row_told entries t.id) r.traces each)
+    map_told (λ (t : Trace). t.id) list_row (row_told entries) (filter is_open_trace r.traces)
+    (All-filter is_open_trace (λ t. list_row t ≡ row_told entries t.id) r.traces each)
     ∙ ap (map (row_told entries)) (open_ids_are are start r entries stands)

@@ -9,11 +9,11 @@ use Rattle.std.proofs.lemmas.List.Sums.{length-filter}
 use Rattle.trace_base.specs.declared.limits.TheConstants.{MAX_TRACKS}
 use Rattle.hall_history.specs.declared.listing.ListRow.{ListRow}
 use Rattle.registry_core.specs.Registry.{is_open_trace, open_count}
-use Rattle.registry_core.specs.Trace.{Trace, row_of}
+use Rattle.registry_core.specs.Trace.{Trace, list_row}
 
 -- the rows of the open ones
 abbrev pub open_rows : List Trace → List ListRow
-open_rows traces = map row_of (filter is_open_trace traces)
+open_rows traces = map list_row (filter is_open_trace traces)
 
 -- some traces are left; the rows of those before them are told, and there is room for all
 pub record TellsRows (all left : List Trace) (rows : List ListRow) (capacity : ℕ) : Type 0 where
@@ -23,7 +23,7 @@ pub record TellsRows (all left : List Trace) (rows : List ListRow) (capacity : �
 
 -- an open trace has a row
 open_rows-open : (t : Trace) (left : List Trace) → t.closing ≡ false
-    → open_rows (t ∷ left) ≡ row_of t ∷ open_rows left
+    → open_rows (t ∷ left) ≡ list_row t ∷ open_rows left
 open_rows-open t left is = rw is
 
 -- one that has ended has none
@@ -32,7 +32,8 @@ open_rows-closing t left is = rw is
 
 -- there are as many rows as open traces
 length-open_rows : (traces : List Trace) → length (open_rows traces) ≡ open_count traces
-length-open_rows traces = length-map (filter is_open_trace traces) row_of ∙ length-filter is_open_trace traces
+length-open_rows traces =
+    length-map (filter is_open_trace traces) list_row ∙ length-filter is_open_trace traces
 
 -- none is told
 pub none_told : (all left : List Trace) (rows : List ListRow) (capacity : ℕ) → left ≡ all → rows ≡ []
@@ -54,18 +55,18 @@ few_next {next = next} t k is = All-head (λ (t : Trace). length t.tracks ≤ MA
 pub room_next : {all left next : List Trace} {rows : List ListRow} {capacity : ℕ} (t : Trace)
     → TellsRows all left rows capacity → left ≡ t ∷ next → t.closing ≡ false → length rows < capacity
 room_next {all} {left} {next} {rows} t k is stays =
-    let left_rows : open_rows left ≡ row_of t ∷ open_rows next =
+    let left_rows : open_rows left ≡ list_row t ∷ open_rows next =
     ap open_rows is ∙ open_rows-open t next stays in
     let told = ap length (sym (ap (λ ys. rows ++ ys) left_rows) ∙ k.told) in
-    omega (arith, k.room, told, length-append rows (row_of t ∷ open_rows next), length-open_rows all)
+    omega (arith, k.room, told, length-append rows (list_row t ∷ open_rows next), length-open_rows all)
 
 -- it is told
 pub told_next : {all left next : List Trace} {rows new : List ListRow} {capacity room : ℕ} (t : Trace)
     (row : ListRow) → TellsRows all left rows capacity → left ≡ t ∷ next → t.closing ≡ false
-    → new ≡ rows ++ row ∷ [] → row ≡ row_of t → room ≡ capacity → TellsRows all next new room
+    → new ≡ rows ++ row ∷ [] → row ≡ list_row t → room ≡ capacity → TellsRows all next new room
 told_next {all} {left} {next} {rows} t row k is stays more its same = record {
   told = ap (λ ys. ys ++ open_rows next) (more ∙ ap (λ y. rows ++ y ∷ []) its)
-      ∙ append_assoc rows (row_of t ∷ []) (open_rows next) ∙ ap (λ ys. rows ++ ys)
+      ∙ append_assoc rows (list_row t ∷ []) (open_rows next) ∙ ap (λ ys. rows ++ ys)
       (sym (ap open_rows is ∙ open_rows-open t next stays)) ∙ k.told;
   room = omega (arith, k.room, same);
   few = All-tail (λ (t : Trace). length t.tracks ≤ MAX_TRACKS) t next

@@ -22,7 +22,7 @@ use Rattle.hall_history.specs.History.{published_as, published_count, published_
 use Rattle.hall_history.proofs.HistoryFronts.{none_yet, published_stays}
 use Rattle.registry_core.specs.Registry.{RegistryValue, kept_trace}
 use Rattle.registry_core.specs.Standing.{KeepsTrace, KeepsTrack, RootsAre, StandsFor, Start}
-use Rattle.registry_core.specs.Trace.{Trace, published_tracks, seen_by_place, told_of}
+use Rattle.registry_core.specs.Trace.{Trace, published_by, published_tracks, seen_by_place}
 use Rattle.registry_core.specs.declared.track_root.TrackRoot.{TrackRoot}
 use Rattle.registry_core.proofs.KeptTraces.{kept_id}
 
@@ -166,7 +166,7 @@ none_past_slots {X} are start entries t track keeps past = by (published_of entr
 
 -- a root that a trace tells as of a place was published by then
 root_told : {X : Type 0} (are : RootsAre X) (start : Start) (entries : List (EntryOf X)) (t : Trace)
-    (place track from root : ℕ) → KeepsTrace are start entries t → told_of t place track ≡ Root from root
+    (place track from root : ℕ) → KeepsTrace are start entries t → published_by t place track ≡ Root from root
     → (what : X) × (published_of (take (place - start.place) entries) t.id track ≡ Some what)
     × are from root what
 root_told {X} are start entries t place track from root keeps told = by (slice_get t.tracks track) refl told
@@ -197,7 +197,7 @@ root_told {X} are start entries t place track from root keeps told = by (slice_g
 
 -- what a trace doesn't tell as of a place wasn't published by then
 none_told : {X : Type 0} (are : RootsAre X) (start : Start) (entries : List (EntryOf X)) (t : Trace)
-    (place track : ℕ) → KeepsTrace are start entries t → told_of t place track ≡ NotYet
+    (place track : ℕ) → KeepsTrace are start entries t → published_by t place track ≡ NotYet
     → published_of (take (place - start.place) entries) t.id track ≡ None
 none_told {X} are start entries t place track keeps told = by (slice_get t.tracks track) refl told
   where
@@ -224,7 +224,7 @@ none_told {X} are start entries t place track keeps told = by (slice_get t.track
 -- a root that the registry tells as of a place is what the history published by then
 pub published_told : {X : Type 0} (are : RootsAre X) (start : Start) (r : RegistryValue)
     (entries : List (EntryOf X)) (id place track from root : ℕ) (t : Trace) → StandsFor are start r entries
-    → kept_trace r.traces id ≡ Some t → told_of t place track ≡ Root from root
+    → kept_trace r.traces id ≡ Some t → published_by t place track ≡ Root from root
     → (what : X) × (published_of (take (place - start.place) entries) id track ≡ Some what)
     × are from root what
 published_told are start r entries id place track from root t stands at told =
@@ -238,7 +238,7 @@ published_told are start r entries id place track from root t stands at told =
 -- what the registry doesn't tell as of a place the history hadn't published by then
 pub not_yet_told : {X : Type 0} (are : RootsAre X) (start : Start) (r : RegistryValue)
     (entries : List (EntryOf X)) (id place track : ℕ) (t : Trace) → StandsFor are start r entries
-    → kept_trace r.traces id ≡ Some t → told_of t place track ≡ NotYet
+    → kept_trace r.traces id ≡ Some t → published_by t place track ≡ NotYet
     → published_of (take (place - start.place) entries) id track ≡ None
 not_yet_told are start r entries id place track t stands at told =
     ap (λ n. published_of (take (place - start.place) entries) n track) (sym (kept_id r.traces id t at))

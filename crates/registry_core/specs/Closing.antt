@@ -10,7 +10,7 @@ use Rattle.registry_core.specs.declared.answers.RegFault.TheVariants as fault
 use Rattle.registry_core.specs.Loading.{with_ended, with_kept}
 use Rattle.registry_core.specs.Registry.{FitsPlaces, LacksPlaces, RegistryValue, after_entry, is_open_trace}
 use Rattle.registry_core.specs.Registry.{open_trace}
-use Rattle.registry_core.specs.Trace.{Trace, roots_in, row_of}
+use Rattle.registry_core.specs.Trace.{Trace, list_row, roots_in}
 
 -- this trace is open, and no longer loading
 pub record IsSealedTrace (r : RegistryValue) (id : ℕ) (t : Trace) : Type 0 where
@@ -34,7 +34,7 @@ ClosesIn old id (close.Spent p) new = LacksPlaces old 1 p × (new ≡ old)
 
 -- a row for each open trace, rising by id
 abbrev pub rows_of : RegistryValue → List ListRow
-rows_of r = map row_of (filter is_open_trace r.traces)
+rows_of r = map list_row (filter is_open_trace r.traces)
 
 -- What list answers. Spent comes where no place is left. It is never told that too many traces are open.
 abbrev pub ListsIn : RegistryValue → Result Listing RegFault → RegistryValue → Type 0

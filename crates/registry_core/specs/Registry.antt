@@ -87,4 +87,9 @@ registry_code =
     code_by (ℕ × (ℕ × (ℕ × List Trace)))
     (coded× coded_ℕ (coded× coded_ℕ (coded× coded_ℕ (coded_list trace_code))))
     (λ r. (r.place, (r.next_id, (r.promised, r.traces))))
-    (λ p. record { place = p.0; next_id = p.1.0; promised = p.1.1.0; traces = p.1.1.1 }) (λ _. refl)
+    (λ (place, (next_id, (promised, traces))). record {
+      place = place;
+      next_id = next_id;
+      promised = promised;
+      traces = traces;
+    }) (λ _. refl)

@@ -54,12 +54,12 @@ seen_by_place place None = NotYet
 seen_by_place place (Some r) = if nat_le r.place place then Root r.start r.root else NotYet
 
 -- what is told of a track as of a place
-abbrev pub told_of : Trace → ℕ → ℕ → Published
-told_of t place track = seen_by_place place (root_of_track t.tracks track)
+abbrev pub published_by : Trace → ℕ → ℕ → Published
+published_by t place track = seen_by_place place (root_of_track t.tracks track)
 
 -- its row in a listing
-abbrev pub row_of : Trace → ListRow
-row_of t = record {
+abbrev pub list_row : Trace → ListRow
+list_row t = record {
   id = t.id;
   tracks = length t.tracks;
   published = published_tracks t;
@@ -116,11 +116,11 @@ trace_code =
     (coded× coded_ℕ (coded× trace_info.the_row.coded (coded× coded_bool (coded× coded_bool (coded× coded_ℕ
     (coded_list (coded_option track_root.the_row.coded)))))))
     (λ t. (t.id, (t.info, (t.closing, (t.loading, (t.users, t.tracks))))))
-    (λ p. record {
-      id = p.0;
-      info = p.1.0;
-      closing = p.1.1.0;
-      loading = p.1.1.1.0;
-      users = p.1.1.1.1.0;
-      tracks = p.1.1.1.1.1;
+    (λ (id, (info, (closing, (loading, (users, tracks))))). record {
+      id = id;
+      info = info;
+      closing = closing;
+      loading = loading;
+      users = users;
+      tracks = tracks;
     }) (λ _. refl)

@@ -13,7 +13,7 @@ ghost use Rattle.registry_core.specs.Examples.{second_root, two_tracks, with_non
 ghost use Rattle.registry_core.specs.Loading.{AdmitsIn, AwaitsSeal, AwaitsTrack, EndsIn, with_published};
 ghost use Rattle.registry_core.specs.Loading.{with_sealed};
 ghost use Rattle.registry_core.specs.Registry.{new_registry};
-ghost use Rattle.registry_core.specs.Trace.{roots_in, told_of};
+ghost use Rattle.registry_core.specs.Trace.{published_by, roots_in};
 ghost use Rattle.registry_core.specs.declared.answers.RegAsk.TheVariants as ask;
 ghost use Rattle.registry_core.specs.declared.answers.RegClose.TheVariants as close;
 ghost use Rattle.registry_core.specs.declared.answers.RegEnd.TheVariants as end;
@@ -49,12 +49,12 @@ pub fn load_beside_a_query()
 
 /// What is told of its tracks as of places: each from its own place on, and none that it doesn't have.
 pub fn told_by_places()
-    ensures first { told_of (loading_trace 1 only_first) 3 0 ≡ Root 0 40 }
-    ensures second { told_of (loading_trace 1 only_first) 3 1 ≡ NotYet }
-    ensures too_early { told_of (loading_trace 1 both) 1 0 ≡ NotYet }
-    ensures early { told_of (loading_trace 1 both) 6 1 ≡ NotYet }
-    ensures in_time { told_of (loading_trace 1 both) 7 1 ≡ Root 2 41 }
-    ensures no_track { told_of (loading_trace 1 both) 8 2 ≡ NotYet }
+    ensures first { published_by (loading_trace 1 only_first) 3 0 ≡ Root 0 40 }
+    ensures second { published_by (loading_trace 1 only_first) 3 1 ≡ NotYet }
+    ensures too_early { published_by (loading_trace 1 both) 1 0 ≡ NotYet }
+    ensures early { published_by (loading_trace 1 both) 6 1 ≡ NotYet }
+    ensures in_time { published_by (loading_trace 1 both) 7 1 ≡ Root 2 41 }
+    ensures no_track { published_by (loading_trace 1 both) 8 2 ≡ NotYet }
 {}
 
 /// A trace that is closed with two users: it is kept, and gone with the second.

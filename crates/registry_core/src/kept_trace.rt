@@ -3,8 +3,8 @@ ghost use Rattle.std.specs.Arc.{arc_value};
 ghost use Rattle.trace_base.specs.declared.limits.TheConstants.{MAX_TRACKS};
 ghost use Rattle.trace_base.specs.Info.{IsLegalInfo};
 ghost use Rattle.registry_core.specs.Trace.{is_over, just_opened, kept_for_users, loaded, promise_of};
-ghost use Rattle.registry_core.specs.Trace.{root_of_track, roots_in, row_of, told_of, used_less, used_more};
-ghost use Rattle.registry_core.specs.Trace.{with_root};
+ghost use Rattle.registry_core.specs.Trace.{list_row, published_by, root_of_track, roots_in, used_less};
+ghost use Rattle.registry_core.specs.Trace.{used_more, with_root};
 
 use crate::roots::Roots;
 use crate::track_root::TrackRoot;
@@ -99,7 +99,7 @@ impl KeptTrace {
 
     /// What is told of a track as of a place.
     pub(crate) fn told(&self, place: u64, track: u32) -> Published
-        ensures { result ≡ told_of self.now place track }
+        ensures { result ≡ published_by self.now place track }
     {
         match self.tracks.get(track as usize) {
             Some(Some(root)) if root.place <= place => Published::Root {
@@ -113,7 +113,7 @@ impl KeptTrace {
     /// Its row in a listing.
     pub(crate) fn row(&self) -> ListRow
         requires { length self.now.tracks ≤ MAX_TRACKS }
-        ensures { result ≡ row_of self.now }
+        ensures { result ≡ list_row self.now }
     {
         ListRow {
             id: self.id,

@@ -18,7 +18,7 @@ ghost use Rattle.registry_core.specs.Loading.{AdmitsIn, AwaitsSeal, AwaitsTrack,
 ghost use Rattle.registry_core.specs.Loading.{with_published, with_sealed};
 ghost use Rattle.registry_core.specs.Registry.{RegistryValue, kept_trace, new_registry, open_count};
 ghost use Rattle.registry_core.specs.Standing.{AreTrees, StandsFor, Start, row_told};
-ghost use Rattle.registry_core.specs.Trace.{Trace, told_of};
+ghost use Rattle.registry_core.specs.Trace.{Trace, published_by};
 ghost use Rattle.registry_core.specs.declared.answers.Opened.{Opened as OpenedTrace};
 ghost use Rattle.registry_core.specs.declared.answers.RegAsk.TheVariants as ask;
 ghost use Rattle.registry_core.specs.declared.answers.RegClose.TheVariants as close;
@@ -124,13 +124,13 @@ pub fn telling()
         → StandsFor (AreTrees key_at) start r entries → open_count r.traces ≡ length (open_ids entries) }
     ensures published { (key_at : KeyAt) (start : Start) (r : RegistryValue) (entries : List Entry)
         (id place track from root : ℕ) (t : Trace) → StandsFor (AreTrees key_at) start r entries
-        → kept_trace r.traces id ≡ Some t → told_of t place track ≡ told.Root from root
+        → kept_trace r.traces id ≡ Some t → published_by t place track ≡ told.Root from root
         → (p : PublishedTree)
         × (published_of (take (place - start.place) entries) id track ≡ Some p)
         × AreTrees key_at from root p }
     ensures not_yet { (key_at : KeyAt) (start : Start) (r : RegistryValue) (entries : List Entry)
         (id place track : ℕ) (t : Trace) → StandsFor (AreTrees key_at) start r entries
-        → kept_trace r.traces id ≡ Some t → told_of t place track ≡ told.NotYet
+        → kept_trace r.traces id ≡ Some t → published_by t place track ≡ told.NotYet
         → published_of (take (place - start.place) entries) id track ≡ None }
 {}
 

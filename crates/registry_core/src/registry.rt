@@ -11,7 +11,7 @@ ghost use Rattle.registry_core.specs.Loading.{EndsIn, AdmitsIn, AwaitsSeal, Awai
 ghost use Rattle.registry_core.specs.Loading.{IsLoadingTrace, with_published, with_sealed};
 ghost use Rattle.registry_core.specs.Registry.{FitsPlaces, after_entry, kept_trace, new_registry};
 ghost use Rattle.registry_core.specs.Registry.{open_trace, taken_places};
-ghost use Rattle.registry_core.specs.Trace.{Trace, told_of};
+ghost use Rattle.registry_core.specs.Trace.{Trace, published_by};
 
 use crate::answers::{Opened, RegAsk, RegClose, RegEnd, RegFault, RegUnpin};
 use crate::kept_trace::KeptTrace;
@@ -264,7 +264,7 @@ impl Registry {
     /// was published behind that place, or not at all.
     pub fn published(&self, id: u64, place: u64, track: u32) -> Published
         requires { IsSome (kept_trace self.now.traces id) }
-        ensures { (t : Trace) → kept_trace self.now.traces id ≡ Some t → result ≡ told_of t place track }
+        ensures { (t : Trace) → kept_trace self.now.traces id ≡ Some t → result ≡ published_by t place track }
     {
         self.kept(id).told(place, track)
     }

@@ -6,7 +6,7 @@ ghost use Rattle.trace_base.specs.declared.limits.TheConstants.{MAX_TRACKS};
 ghost use Rattle.registry_core.specs.Asking.{times_asked, with_users, without_users};
 ghost use Rattle.registry_core.specs.Registry.{has_id, is_open_trace, kept_trace, open_count, with_changed};
 ghost use Rattle.registry_core.specs.Registry.{without_trace};
-ghost use Rattle.registry_core.specs.Trace.{Trace, is_over, kept_for_users, loaded, roots_in, row_of};
+ghost use Rattle.registry_core.specs.Trace.{Trace, is_over, kept_for_users, list_row, loaded, roots_in};
 ghost use Rattle.registry_core.specs.Trace.{used_less, used_more, with_root};
 
 use crate::kept_trace::KeptTrace;
@@ -174,7 +174,7 @@ impl Traces {
     pub(crate) fn rows(&self, alloc: Global, count: u64) -> Result<Seq<ListRow>, Memory>
         requires few { All (λ (t : Trace). length t.tracks ≤ MAX_TRACKS) self.now }
         requires count { count ≡ open_count self.now }
-        ensures { IfOk result (λ rows. rows ≡ map row_of (filter is_open_trace self.now)) }
+        ensures { IfOk result (λ rows. rows ≡ map list_row (filter is_open_trace self.now)) }
     {
         let Ok(mut rows) = Vec::with_capacity(alloc, count as usize) else {
             return Err(Memory);
