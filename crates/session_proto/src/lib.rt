@@ -10,4 +10,4 @@ mod write;
 
 pub use reply::{NamedRow, No, Reply};
 pub use request::{Request, Sel, parse_request};
-pub use write::write_reply;
+pub use write::{SHORT_REPLY, write_reply};

@@ -8,8 +8,8 @@ use crate::reply::{NamedRow, No, Reply};
 use itoa::Buffer;
 use trace_base::{MAX_OPEN_TRACES, Memory};
 
-/// The room that every reply but a profile's rows fits in, in bytes.
-const SHORT: usize = 200;
+/// The room in bytes that every reply but a profile's rows fits in, where no word in it has more than 100.
+pub const SHORT_REPLY: usize = 200;
 
 // Adds bytes for which there is room.
 fn add(out: &mut Vec<u8>, bytes: &[u8])
@@ -75,7 +75,8 @@ fn add_text_refusal(out: &mut Vec<u8>, line: u32, word: &str) -> Result<(), Memo
     ensures ok { OnOk result (out.new.items ≡ out.old.items
         ++ (codes "NO 20" ++ spaced line ++ 32 ∷ word.now ++ 10 ∷ [])) }
     ensures err { OnErr result (out.new.items ≡ out.old.items) }
-    ensures short { length word.now ≤ 100 → vec_len out.old + 200 ≤ vec_capacity out.old → IsOk result }
+    ensures short { length word.now ≤ 100 → vec_len out.old + SHORT_REPLY ≤ vec_capacity out.old
+        → IsOk result }
     ensures capacity { vec_capacity out.old ≤ vec_capacity out.new }
 {
     let word = word.as_bytes();
@@ -95,7 +96,7 @@ fn add_text_refusal(out: &mut Vec<u8>, line: u32, word: &str) -> Result<(), Memo
 
 // Adds the line of a refusal. Without memory for a long word nothing is added.
 fn add_refusal(out: &mut Vec<u8>, no: &No) -> Result<(), Memory>
-    requires { vec_len out.old + 200 ≤ vec_capacity out.old }
+    requires { vec_len out.old + SHORT_REPLY ≤ vec_capacity out.old }
     ensures ok { OnOk result (out.new.items ≡ out.old.items ++ no_text no.now) }
     ensures err { OnErr result (out.new.items ≡ out.old.items) }
     ensures short { IsTrue (is_short_refusal no.now) → IsOk result }
@@ -127,7 +128,7 @@ fn add_refusal(out: &mut Vec<u8>, no: &No) -> Result<(), Memory>
 
 // Adds the line of a trace that is open.
 fn add_put(out: &mut Vec<u8>, id: u64, tracks: u64, functions: u64, messages: u64, place: u64)
-    requires { vec_len out.old + 200 ≤ vec_capacity out.old }
+    requires { vec_len out.old + SHORT_REPLY ≤ vec_capacity out.old }
     ensures items { out.new.items ≡ out.old.items
         ++ (codes "OK PUT" ++ spaced id ++ spaced tracks ++ spaced functions
         ++ spaced messages ++ at_place place) }
@@ -143,7 +144,7 @@ fn add_put(out: &mut Vec<u8>, id: u64, tracks: u64, functions: u64, messages: u6
 
 // Adds the first line of a profile.
 fn add_flat_head(out: &mut Vec<u8>, rows: u64, over: u32, bare: u128, place: u64)
-    requires { vec_len out.old + 200 ≤ vec_capacity out.old }
+    requires { vec_len out.old + SHORT_REPLY ≤ vec_capacity out.old }
     ensures items { out.new.items ≡ out.old.items
         ++ (codes "OK FLAT" ++ spaced rows ++ spaced over ++ spaced bare ++ at_place place) }
     ensures capacity { vec_capacity out.old ≤ vec_capacity out.new }
@@ -162,7 +163,7 @@ fn add_row(out: &mut Vec<u8>, named: &NamedRow) -> Result<(), Memory>
     ensures capacity { vec_capacity out.old ≤ vec_capacity out.new }
 {
     let name = named.name.as_bytes();
-    let Some(room) = name.len().checked_add(SHORT) else {
+    let Some(room) = name.len().checked_add(SHORT_REPLY) else {
         return Err(Memory);
     };
     if out.reserve(room).is_err() {
@@ -190,16 +191,17 @@ fn add_rows(out: &mut Vec<u8>, rows: &[NamedRow]) -> Result<(), Memory>
     Ok(())
 }
 
-/// Adds the text of a reply at the end. On `Memory` the text is as before; where there is room for 200 more
-/// bytes, a reply of one line can't fail, unless a word in it has more than 100 bytes.
+/// Adds the text of a reply at the end. On `Memory` the text is as before; where there is room for
+/// `SHORT_REPLY` more bytes, a reply of one line can't fail, unless a word in it has more than 100 bytes.
 #[tactic(auto, unfolding(crate::specs::Reply::reply_text))]
 pub fn write_reply(reply: &Reply, out: &mut Vec<u8>) -> Result<(), Memory>
     ensures ok { OnOk result (out.new.items ≡ out.old.items ++ reply_text reply.now) }
     ensures err { OnErr result (out.new.items ≡ out.old.items) }
-    ensures short { IsTrue (is_short reply.now) → vec_len out.old + 200 ≤ vec_capacity out.old → IsOk result }
+    ensures short { IsTrue (is_short reply.now) → vec_len out.old + SHORT_REPLY ≤ vec_capacity out.old
+        → IsOk result }
     ensures capacity { vec_capacity out.old ≤ vec_capacity out.new }
 {
-    if out.reserve(SHORT).is_err() {
+    if out.reserve(SHORT_REPLY).is_err() {
         return Err(Memory);
     }
     match reply {
@@ -235,7 +237,7 @@ fn add_flat(
     rows: &[NamedRow],
     place: u64,
 ) -> Result<(), Memory>
-    requires { vec_len out.old + 200 ≤ vec_capacity out.old }
+    requires { vec_len out.old + SHORT_REPLY ≤ vec_capacity out.old }
     ensures ok { OnOk result (out.new.items ≡ out.old.items
         ++ ((codes "OK FLAT" ++ spaced (length rows.now) ++ spaced over ++ spaced bare ++ at_place place)
         ++ flat_map row_text rows.now)) }
