@@ -1,10 +1,12 @@
-use Rattle.std.proofs.Common.{◌≡◌, ◌+◌, ◌<◌, sym, ◌∙◌, ap, arith, length, ℕ}
+use Rattle.std.proofs.Common.{◌≡◌, ◌+◌, ◌<◌, ◌≤◌, sym, ◌∙◌, ap, arith, length, ℕ}
+use Rattle.trace_base.specs.declared.limits.TheConstants.{MAX_TIME}
 use Rattle.trace_base.specs.declared.stream.Event.TheVariants.{Enter}
 use Rattle.trace_base.specs.Stream.{stack_after}
 use Rattle.event_model.specs.Part.{has}
 use Rattle.event_model.proofs.Times.{moment, moment-zero, moment-read, moment-last, time_upto, time_upto-zero}
 use Rattle.event_model.proofs.Times.{time_upto-step, time_upto-all, time_upto-limit, stack-read}
 use Rattle.event_model.proofs.pass.time_in.Goals as goal
+use Rattle.event_model.proofs.pass.time_in.Goals.{After-time_here-total-2}
 
 pub loop-event-init : goal.loop-event-init
 unfolding stack_after
@@ -52,62 +54,52 @@ loop-event-preserved c =
       ),
     )
 
--- the whole time, after the last piece
-pub overflow_add-total-2 : goal.overflow_add-total-2
-overflow_add-total-2 c =
-    let count : c.loop-event.event-index ≡ length c.args.s.now.events =
+-- all events are read
+all_read : (c : After-time_here-total-2) → c.loop-event.event-index ≡ length c.args.s.now.events
+all_read c =
     omega (
       arith,
       c.loop-event-test.false,
       ap length c.as_slice-event-items.ensures,
       c.loop-event.auto.event-index-end,
-    ) in
+    )
+
+-- the time so far with that of the last piece
+with_last : (c : After-time_here-total-2) → c.loop-event.total + c.time_here-total-2.result
+    ≡ time_upto (has c.args.part) c.args.a c.args.b c.args.s.now (c.loop-event.event-index + 1)
+with_last c =
     omega (
       arith,
       c.time_here-total-2.ensures,
       c.loop-event.invariant.2,
       time_upto-step (has c.args.part) c.args.a c.args.b c.args.s.now c.loop-event.event-index
           c.loop-event.from c.args.s.now.end c.as_slice-2.result.now c.loop-event.invariant.0
-          (sym (moment-last c.args.s.now) ∙ ap (λ (n : ℕ). moment c.args.s.now (n + 1)) (sym count))
+          (sym (moment-last c.args.s.now) ∙ ap (λ (n : ℕ). moment c.args.s.now (n + 1)) (sym (all_read c)))
           (c.as_slice-2.ensures.value ∙ c.loop-event.invariant.1),
-      time_upto-limit (has c.args.part) c.args.a c.args.b c.args.s.now (c.loop-event.event-index + 1)
-          c.requires (omega arith),
     )
+
+-- it is within the limit
+in_limit : (c : After-time_here-total-2) → c.loop-event.total + c.time_here-total-2.result ≤ MAX_TIME
+in_limit c =
+    omega (
+      arith,
+      all_read c,
+      with_last c,
+      time_upto-limit (has c.args.part) c.args.a c.args.b c.args.s.now (c.loop-event.event-index + 1)
+          c.requires (omega (arith, all_read c)),
+    )
+
+pub overflow_add-total-2 : goal.overflow_add-total-2
+overflow_add-total-2 c =
+    omega (arith, in_limit (goal.at.overflow_add-total-2 c).After-time_here-total-2)
 
 pub returns-clause-exact : goal.returns-clause-exact
 returns-clause-exact c =
-    let count : c.loop-event.event-index ≡ length c.args.s.now.events =
-    omega (
-      arith,
-      c.loop-event-test.false,
-      ap length c.as_slice-event-items.ensures,
-      c.loop-event.auto.event-index-end,
-    ) in
-    let more = time_upto-step (has c.args.part) c.args.a c.args.b c.args.s.now c.loop-event.event-index
-    c.loop-event.from c.args.s.now.end c.as_slice-2.result.now c.loop-event.invariant.0
-    (sym (moment-last c.args.s.now) ∙ ap (λ (n : ℕ). moment c.args.s.now (n + 1)) (sym count))
-    (c.as_slice-2.ensures.value ∙ c.loop-event.invariant.1) in
-    let whole = ap (λ (n : ℕ). time_upto (has c.args.part) c.args.a c.args.b c.args.s.now (n + 1)) count ∙
-    time_upto-all (has c.args.part) c.args.a c.args.b c.args.s.now in
-    omega (arith, more, whole, c.time_here-total-2.ensures, c.loop-event.invariant.2)
+    let t = (goal.at.returns-clause-exact c).After-time_here-total-2 in
+    let whole =
+    ap (λ (n : ℕ). time_upto (has c.args.part) c.args.a c.args.b c.args.s.now (n + 1)) (all_read t)
+    ∙ time_upto-all (has c.args.part) c.args.a c.args.b c.args.s.now in
+    omega (arith, with_last t, whole)
 
 pub returns-clause-within_limit : goal.returns-clause-within_limit
-returns-clause-within_limit c =
-    let count : c.loop-event.event-index ≡ length c.args.s.now.events =
-    omega (
-      arith,
-      c.loop-event-test.false,
-      ap length c.as_slice-event-items.ensures,
-      c.loop-event.auto.event-index-end,
-    ) in
-    omega (
-      arith,
-      c.time_here-total-2.ensures,
-      c.loop-event.invariant.2,
-      time_upto-step (has c.args.part) c.args.a c.args.b c.args.s.now c.loop-event.event-index
-          c.loop-event.from c.args.s.now.end c.as_slice-2.result.now c.loop-event.invariant.0
-          (sym (moment-last c.args.s.now) ∙ ap (λ (n : ℕ). moment c.args.s.now (n + 1)) (sym count))
-          (c.as_slice-2.ensures.value ∙ c.loop-event.invariant.1),
-      time_upto-limit (has c.args.part) c.args.a c.args.b c.args.s.now (c.loop-event.event-index + 1)
-          c.requires (omega arith),
-    )
+returns-clause-within_limit c = in_limit (goal.at.returns-clause-within_limit c).After-time_here-total-2
