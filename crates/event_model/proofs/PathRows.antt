@@ -1,7 +1,7 @@
--- The different call paths of a stream, one event more, and the rows of paths, one path more.
-use Rattle.std.proofs.Common.{◌≡◌, ℕ, ◌+◌, ◌<◌, ◌≤◌, not, Bool, true, false, cond, List, [], ◌∷◌, ◌++◌}
+-- The different call paths of a stream, one event more.
+use Rattle.std.proofs.Common.{◌≡◌, ℕ, ◌+◌, ◌≤◌, not, Bool, true, false, cond, List, [], ◌∷◌, ◌++◌}
 use Rattle.std.proofs.Common.{length}
-use Rattle.std.proofs.Common.{take, get_or, map, filter, refl, ap, subst, sym, ◌∙◌, arith, append-nil}
+use Rattle.std.proofs.Common.{take, map, filter, refl, ap, subst, sym, ◌∙◌, arith, append-nil}
 use Rattle.std.proofs.Common.{Vec, Global}
 use Rattle.std.specs.BTreeSet.{insert_key}
 use Rattle.std.specs.Cmp.Lexicographic.{slice_cmp}
@@ -9,21 +9,18 @@ use Rattle.std.specs.List.{All, range_with_len}
 use Rattle.std.specs.Ordering.{nat_cmp}
 use Rattle.std.specs.declared.cmp.Ordering.{Ordering}
 use Rattle.std.proofs.lemmas.Bool.{cond-true, cond-false, eqb-false}
-use Rattle.std.proofs.lemmas.List.{map-append}
-use Rattle.std.proofs.lemmas.List.Elements.{filter-append, All-nil}
+use Rattle.std.proofs.lemmas.List.Elements.{All-nil}
 use Rattle.std.proofs.lemmas.Map.Views.{All-insert_key}
 use Rattle.std.proofs.lemmas.List.FromFn.{filter_of_map_range_with_len_more}
 use Rattle.std.proofs.lemmas.List.Sums.{fold_push}
-use Rattle.std.proofs.lemmas.List.{map_more}
 use Rattle.list_lemmas.proofs.InOrder.{map-insert_key}
 use Rattle.trace_base.specs.Flat.{is_bare}
 use Rattle.trace_base.specs.InOrder.{distinct_in_order}
-use Rattle.trace_base.specs.Paths.{call_paths, call_stacks, path_row, path_stands}
+use Rattle.trace_base.specs.Paths.{call_paths, call_stacks}
 use Rattle.trace_base.specs.Stream.{stack_after, IsLegal}
 use Rattle.trace_base.specs.declared.limits.TheConstants.{MAX_OPEN_CALLS}
-use Rattle.trace_base.specs.declared.profile.PathRow.{PathRow}
 use Rattle.trace_base.specs.declared.stream.TrackStream.{TrackStream}
-use Rattle.event_model.specs.PathRows.{rows_told, IsOfOpenCalls}
+use Rattle.event_model.specs.PathRows.{IsOfOpenCalls}
 
 abbrev stacks_upto : TrackStream → ℕ → List (List ℕ)
 stacks_upto s n = filter (λ stack. not (is_bare stack))
@@ -110,29 +107,3 @@ HasPaths-more s n calls new keys more path legal has e open_ same put =
       each = subst P (sym put) (All-insert_key order path (λ p. IsOfOpenCalls p.items) keys has.each
           (record { some = some; depth = depth }));
     }
-
-rows_told-push : (streams : List TrackStream) (a b : ℕ) (paths : List (List ℕ)) (path : List ℕ)
-    → rows_told streams a b (paths ++ path ∷ []) ≡ rows_told streams a b paths
-    ++ cond (path_stands streams a b path) (path_row streams a b path ∷ []) []
-rows_told-push streams a b paths path =
-    ap (map (path_row streams a b)) (filter-append (path_stands streams a b) paths (path ∷ []))
-    ∙ map-append (path_row streams a b) (filter (path_stands streams a b) paths)
-    (cond (path_stands streams a b path) (path ∷ []) [])
-    ∙ ap (λ (rows : List PathRow). rows_told streams a b paths ++ rows) (by (path_stands streams a b path))
-  where
-    by : (told : Bool) → map (path_row streams a b) (cond told (path ∷ []) []) ≡ cond told
-        (path_row streams a b path ∷ []) []
-    by true = refl
-    by false = refl
-
--- the rows of one path more
-pub rows_told-more : (streams : List TrackStream) (a b : ℕ) (paths : List (Vec ℕ Global)) (i : ℕ)
-    (path : Vec ℕ Global) → i < length paths → path ≡ get_or paths i path
-    → rows_told streams a b (map (λ p. p.items) (take (i + 1) paths)) ≡ rows_told streams a b
-    (map (λ p. p.items) (take i paths))
-    ++ cond (path_stands streams a b path.items) (path_row streams a b path.items ∷ []) []
-rows_told-more streams a b paths i path h e =
-    ap (rows_told streams a b)
-    (map_more (λ (p : Vec ℕ Global). p.items) paths i path h
-    ∙ ap (λ (p : Vec ℕ Global). map (λ (q : Vec ℕ Global). q.items) (take i paths) ++ p.items ∷ []) (sym e))
-    ∙ rows_told-push streams a b (map (λ (p : Vec ℕ Global). p.items) (take i paths)) path.items

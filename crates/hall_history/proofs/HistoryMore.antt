@@ -173,10 +173,6 @@ pub fate_published : {X : Type 0} (entries : List (EntryOf X)) (other which : �
     → SameFate entries (entries ++ Published other which what ∷ []) id
 fate_published entries other which what id = fate_more entries _ id refl refl
 
-pub fate_opened : {X : Type 0} (entries : List (EntryOf X)) (other : ℕ) (info : TraceInfo) (id : ℕ)
-    → SameFate entries (entries ++ Opened other info ∷ []) id
-fate_opened entries other info id = fate_more entries _ id refl refl
-
 -- what follows from the same data and the same fate
 pub open_same : {X : Type 0} (old new : List (EntryOf X)) (id : ℕ) → SameData old new id → SameFate old new id
     → is_open new id ≡ is_open old id

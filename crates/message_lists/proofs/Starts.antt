@@ -1,7 +1,7 @@
 -- The messages of the first link events, one link event more.
 use Rattle.std.proofs.Common.{◌≡◌, ℕ, ◌+◌, ◌<◌, cond, List, length, take, get_or}
 use Rattle.std.proofs.Common.{map, filter, count_by, slice_get, Option, Some, None, option_map}
-use Rattle.std.proofs.Common.{option_and_then, refl, ap, sym, ◌∙◌, add-zero, add-one}
+use Rattle.std.proofs.Common.{option_and_then, refl, ap, sym, ◌∙◌}
 use Rattle.std.proofs.lemmas.List.Sums.{length-filter, sum_by_more}
 use Rattle.std.proofs.lemmas.Option.{slice_get_read}
 use Rattle.std.proofs.lemmas.Option.{slice_get-map}

@@ -149,12 +149,6 @@ pub record Merges {R : Type 0} (place : R → R → Ordering) (plus : R → R �
   pub room : length zs ≡ length whole
   pub same : take spot zs ++ merged place plus (drop at zs) (drop next ys) ≡ whole
 
-pub merges-start : {R : Type 0} (place : R → R → Ordering) (plus : R → R → R) (zs ys : List R) (from : ℕ)
-    → from ≤ length zs → length zs ≡ length (merged place plus (drop from zs) ys)
-    → Merges place plus (merged place plus (drop from zs) ys) zs ys from 0 0
-merges-start place plus zs ys from h k =
-    record { at_in = h; next_in = omega arith; spot_in = omega arith; room = k; same = refl }
-
 -- there is room for the next row, and one of the first list isn't written over before it is read
 pub merges-room : {R : Type 0} (place : R → R → Ordering) (plus : R → R → R) (whole zs ys : List R)
     (at next spot at' next' : ℕ) (h : R) → Merges place plus whole zs ys at next spot → at' ≤ length zs
