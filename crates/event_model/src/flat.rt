@@ -10,7 +10,7 @@ use crate::pass::{calls_of, greatest_in, time_in};
 use std::alloc::Global;
 use trace_base::{Memory, Profile, Row, Seq, TrackStream};
 
-/// The time within [a, b) in which the part runs, over the streams, in nanoseconds.
+// The time within [a, b) in which the part runs, over the streams, in nanoseconds.
 fn time_over(
     alloc: Global,
     streams: &[&TrackStream],
@@ -29,7 +29,7 @@ fn time_over(
     Ok(total)
 }
 
-/// The calls of the function that begin within [a, b), over the streams.
+// The calls of the function that begin within [a, b), over the streams.
 fn calls_over(streams: &[&TrackStream], f: u32, a: u64, b: u64) -> u64
     requires legal { All (λ s. IsLegal s.now) streams.now }
     requires few { length streams.now ≤ MAX_TRACKS }
@@ -42,7 +42,7 @@ fn calls_over(streams: &[&TrackStream], f: u32, a: u64, b: u64) -> u64
     calls
 }
 
-/// The greatest function that the streams enter, 0 where there is none.
+// The greatest function that the streams enter, 0 where there is none.
 #[tactic(auto, unfolding(trace_base::specs::Flat::greatest_function))]
 fn greatest_over(streams: &[&TrackStream]) -> u32
     ensures { result ≡ greatest_function (map (λ s. s.now) streams.now) }
@@ -54,7 +54,7 @@ fn greatest_over(streams: &[&TrackStream]) -> u32
     greatest
 }
 
-/// What the function took within [a, b), over the streams.
+// What the function took within [a, b), over the streams.
 #[tactic(auto, unfolding(trace_base::specs::Flat::row_of))]
 fn row(alloc: Global, streams: &[&TrackStream], a: u64, b: u64, f: u32) -> Result<Row, Memory>
     requires legal { All (λ s. IsLegal s.now) streams.now }
@@ -69,7 +69,7 @@ fn row(alloc: Global, streams: &[&TrackStream], a: u64, b: u64, f: u32) -> Resul
     })
 }
 
-/// Whether the row is told.
+// Whether the row is told.
 fn is_told(row: &Row) -> bool
     ensures { result ≡ stands row.now }
 {

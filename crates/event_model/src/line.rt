@@ -9,7 +9,7 @@ use crate::flat::flat_of;
 use std::alloc::Global;
 use trace_base::{Memory, Profile, Row, Seq, TrackStream};
 
-/// The time at which pixel i begins, counted from 0, where [a, b) has px of them. For i = px it is b.
+// The time at which pixel i begins, counted from 0, where [a, b) has px of them. For i = px it is b.
 fn start_of_pixel(a: u64, b: u64, px: u32, i: u32) -> u64
     requires below { a < b }
     requires limit { b ≤ MAX_TIME }
@@ -21,7 +21,7 @@ fn start_of_pixel(a: u64, b: u64, px: u32, i: u32) -> u64
     a + (u128::from(i) * u128::from(b - a) / u128::from(px)) as u64
 }
 
-/// The greatest time of its own that a row has.
+// The greatest time of its own that a row has.
 fn most_of(rows: &[Row]) -> u128
     ensures { result ≡ greatest_excl rows.now }
 {
@@ -32,14 +32,14 @@ fn most_of(rows: &[Row]) -> u128
     most
 }
 
-/// The first row with this time of its own, if that is above 0.
+// The first row with this time of its own, if that is above 0.
 fn first_with(rows: &[Row], excl: u128) -> Option<&Row>
     ensures { option_copied result ≡ find (λ row. nat_lt 0 row.excl && (row.excl == excl)) rows.now }
 {
     rows.iter().find(|row| row.excl > 0 && row.excl == excl)
 }
 
-/// The function of the greatest time of its own, the least on a tie, 0 where none has any.
+// The function of the greatest time of its own, the least on a tie, 0 where none has any.
 fn busiest_of(profile: &Profile) -> u32
     ensures { result ≡ busiest profile.now }
 {

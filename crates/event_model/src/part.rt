@@ -18,14 +18,14 @@ pub enum Part<'a> {
     Under(&'a [u32]),
 }
 
-/// Whether a call of the function is open.
+// Whether a call of the function is open.
 fn is_open(f: u32, stack: &[u32]) -> bool
     ensures { result ≡ is_open_in f stack.now }
 {
     stack.iter().any(|g| *g == f)
 }
 
-/// Whether the innermost call is one of the function.
+// Whether the innermost call is one of the function.
 fn is_innermost(f: u32, stack: &[u32]) -> bool
     ensures { result ≡ is_innermost_in f stack.now }
 {
@@ -35,7 +35,7 @@ fn is_innermost(f: u32, stack: &[u32]) -> bool
     }
 }
 
-/// Whether the calls that are open are the path.
+// Whether the calls that are open are the path.
 fn is_at(path: &[u32], stack: &[u32]) -> bool
     ensures { result ≡ is_path path.now stack.now }
 {

@@ -11,7 +11,7 @@ use crate::part::{Part, runs};
 use std::alloc::Global;
 use trace_base::{Event, Memory, TrackStream};
 
-/// When the event comes, in nanoseconds.
+// When the event comes, in nanoseconds.
 fn time(event: Event) -> u64
     ensures { result ≡ time_of event }
 {
@@ -21,7 +21,7 @@ fn time(event: Event) -> u64
     }
 }
 
-/// The function that the event enters, or 0.
+// The function that the event enters, or 0.
 fn function(event: Event) -> u32
     ensures { result ≡ function_of event }
 {
@@ -44,14 +44,14 @@ pub fn step(stack: &mut Vec<u32>, event: Event) -> Result<(), Memory>
     Ok(())
 }
 
-/// The length of the overlap of [from, to) and [a, b).
+// The length of the overlap of [from, to) and [a, b).
 fn clip_of(from: u64, to: u64, a: u64, b: u64) -> u64
     ensures { result ≡ min to b - max from a }
 {
     to.min(b).saturating_sub(from.max(a))
 }
 
-/// What the time from `from` to `to` with this call stack adds to the part's time within [a, b).
+// What the time from `from` to `to` with this call stack adds to the part's time within [a, b).
 fn time_here(part: Part<'_>, stack: &[u32], from: u64, to: u64, a: u64, b: u64) -> u64
     ensures { result ≡ (if has part.entry stack.now then min to b - max from a else 0) }
 {
@@ -87,7 +87,7 @@ pub fn time_in(
     Ok(total)
 }
 
-/// Whether the event begins a call of the function within [a, b).
+// Whether the event begins a call of the function within [a, b).
 fn enters(event: Event, f: u32, a: u64, b: u64) -> bool
     ensures { result ≡ enters_in f a b event }
 {
@@ -124,7 +124,7 @@ pub fn greatest_in(s: &TrackStream, so_far: u32) -> u32
     greatest
 }
 
-/// Whether the event begins a call within [a, b).
+// Whether the event begins a call within [a, b).
 fn begins_within(event: Event, a: u64, b: u64) -> bool
     ensures { result ≡ (is_enter event && is_within a b (time_of event)) }
 {
@@ -134,7 +134,7 @@ fn begins_within(event: Event, a: u64, b: u64) -> bool
     }
 }
 
-/// One where the event begins a call within [a, b) after which the part runs, else none.
+// One where the event begins a call within [a, b) after which the part runs, else none.
 fn call_into(event: Event, part: Part<'_>, stack: &[u32], a: u64, b: u64) -> u64
     ensures exact { result ≡ (if (is_enter event && is_within a b (time_of event)) && has part.entry stack.now
         then 1 else 0) }

@@ -11,7 +11,7 @@ use std::alloc::Global;
 use std::collections::BTreeSet;
 use trace_base::{Memory, PathProfile, PathRow, Seq, TrackStream};
 
-/// The different call paths of the stream, in depth-first order.
+// The different call paths of the stream, in depth-first order.
 fn call_paths_of(alloc: Global, s: &TrackStream) -> Result<Vec<Vec<u32>>, Memory>
     requires { IsLegal s.now }
     ensures exact { IfOk result (λ paths. map (λ path. path.items) paths.items ≡ call_paths (s.now ∷ [])) }
@@ -28,7 +28,7 @@ fn call_paths_of(alloc: Global, s: &TrackStream) -> Result<Vec<Vec<u32>>, Memory
     Ok(paths.into_iter().collect(alloc)?)
 }
 
-/// What the path took within [a, b).
+// What the path took within [a, b).
 #[tactic(auto, unfolding(trace_base::specs::Paths::path_row))]
 fn row(alloc: Global, s: &TrackStream, a: u64, b: u64, path: &[u32]) -> Result<PathRow, Memory>
     requires legal { IsLegal s.now }
@@ -44,7 +44,7 @@ fn row(alloc: Global, s: &TrackStream, a: u64, b: u64, path: &[u32]) -> Result<P
     })
 }
 
-/// Whether a path that begins with this one began a call within [a, b) or took time in it.
+// Whether a path that begins with this one began a call within [a, b) or took time in it.
 #[tactic(auto, unfolding(trace_base::specs::Paths::path_stands))]
 fn stands(alloc: Global, s: &TrackStream, a: u64, b: u64, path: &[u32]) -> Result<bool, Memory>
     requires { IsLegal s.now }
@@ -55,7 +55,7 @@ fn stands(alloc: Global, s: &TrackStream, a: u64, b: u64, path: &[u32]) -> Resul
     Ok(calls > 0 || time > 0)
 }
 
-/// The rows of the paths that stand, in the order of the paths.
+// The rows of the paths that stand, in the order of the paths.
 fn rows_of(
     alloc: Global,
     s: &TrackStream,

@@ -52,8 +52,8 @@ impl Entry {
     }
 }
 
-/// The same rows, in a block of their size where one was found. A block made smaller in place would leave a
-/// gap behind it that is too short for the next one.
+// The same rows, in a block of their size where one was found. A block made smaller in place would leave a
+// gap behind it that is too short for the next one.
 fn tight<T: Copy>(alloc: Global, rows: Seq<T>) -> Seq<T>
     ensures { result ≡ rows }
 {

@@ -14,7 +14,7 @@ pub struct Arrival {
     pub time: u64,
 }
 
-/// Adds an arrival after those of its link type and key.
+// Adds an arrival after those of its link type and key.
 fn add<'a>(
     alloc: Global,
     arrivals: &mut HashMap<LinkKey<'a>, Vec<Arrival>>,

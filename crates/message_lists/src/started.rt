@@ -12,7 +12,7 @@ use std::alloc::Global;
 use std::collections::HashMap;
 use trace_base::{LinkEvent, Memory, Message};
 
-/// The message of this start and this arrival.
+// The message of this start and this arrival.
 fn message(start: &LinkEvent, arrival: Arrival) -> Message
     ensures { result ≡ message_to start.now arrival }
 {
@@ -25,7 +25,7 @@ fn message(start: &LinkEvent, arrival: Arrival) -> Message
     }
 }
 
-/// The message that the link event starts, if it starts one. A start is counted.
+// The message that the link event starts, if it starts one. A start is counted.
 fn next<'a>(
     arrivals: &HashMap<LinkKey<'a>, Vec<Arrival>>,
     counts: &mut HashMap<LinkKey<'a>, usize>,

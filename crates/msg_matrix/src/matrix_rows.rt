@@ -8,14 +8,14 @@ use std::alloc::Global;
 use std::collections::BTreeMap;
 use trace_base::{Matrix, MatrixRow, Memory, Message, MsgTable, Seq};
 
-/// Whether the message was sent within [a, b).
+// Whether the message was sent within [a, b).
 fn is_sent_within(m: &Message, a: u64, b: u64) -> bool
     ensures { result ≡ is_within a b m.now.send }
 {
     a <= m.send && m.send < b
 }
 
-/// The rows, in the order of their pairs.
+// The rows, in the order of their pairs.
 fn rows_in_order(
     alloc: Global,
     pairs: &BTreeMap<(u32, u32), MatrixRow>,

@@ -8,7 +8,7 @@ ghost use Rattle.trace_base.specs.declared.matrix.MatrixRow.{MatrixRow};
 use std::collections::BTreeMap;
 use trace_base::{MatrixRow, Memory, Message};
 
-/// The row of a pair without messages.
+// The row of a pair without messages.
 fn no_messages(from: u32, to: u32) -> MatrixRow
     ensures { result ≡ empty_row (from, to) }
 {
@@ -23,7 +23,7 @@ fn no_messages(from: u32, to: u32) -> MatrixRow
     }
 }
 
-/// The row with one message more.
+// The row with one message more.
 fn with_message(row: MatrixRow, m: Message) -> MatrixRow
     requires { IsOfAtMost row (2 ^ 63) }
     ensures exact { result ≡ row_with row m }

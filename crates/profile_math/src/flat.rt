@@ -31,7 +31,7 @@ impl Summand for Row {
     }
 }
 
-/// The time in which any call was open.
+// The time in which any call was open.
 fn time_in_calls(rows: &[Row]) -> u128
     requires { sum_by (λ r. r.excl) rows.now < 2 ^ 128 }
     ensures { result ≡ sum_by (λ r. r.excl) rows.now }
@@ -39,23 +39,23 @@ fn time_in_calls(rows: &[Row]) -> u128
     rows.iter().map(|row| row.excl).sum()
 }
 
-/// Where the row of the function stands, if it has one.
+// Where the row of the function stands, if it has one.
 fn place_of(rows: &[Row], func: u32) -> Option<usize>
     ensures { result ≡ position (λ r. r.func == func) rows.now }
 {
     rows.iter().position(|row| row.func == func)
 }
 
-/// Whether the row tells a call or time.
+// Whether the row tells a call or time.
 fn holds_anything(row: &Row) -> bool
     ensures { result ≡ stands row.now }
 {
     row.calls > 0 || row.incl > 0
 }
 
-/// Puts a call over the rows: its row's calls and exclusive time are added to those of its function, and its
-/// inclusive time takes the place of theirs. A new row that would hold nothing isn't added. On `Memory` the
-/// rows are as before.
+// Puts a call over the rows: its row's calls and exclusive time are added to those of its function, and its
+// inclusive time takes the place of theirs. A new row that would hold nothing isn't added. On `Memory` the
+// rows are as before.
 fn close_rows(rows: &mut Seq<Row>, call: Row) -> Result<(), Memory>
     requires ordered { RisesByFunction rows.old }
     requires fits { All RowFits (closed_rows rows.old call) }

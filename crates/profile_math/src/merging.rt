@@ -26,8 +26,8 @@ pub trait Summand: Copy {
         ensures { result ≡ plus self other };
 }
 
-/// Whether the row at an index stands before a row, at its place or behind it. Behind the last row nothing
-/// stands.
+// Whether the row at an index stands before a row, at its place or behind it. Behind the last row nothing
+// stands.
 fn turn<R: Summand>(rows: &[R], at: usize, row: R) -> Ordering
     requires { at ≤ length rows.now }
     ensures { result ≡ turn_of R.place (drop at rows.now) row }
@@ -39,7 +39,7 @@ fn turn<R: Summand>(rows: &[R], at: usize, row: R) -> Ordering
     }
 }
 
-/// How many rows the merged list has more than the first.
+// How many rows the merged list has more than the first.
 fn count_missing<R: Summand>(rows: &[R], others: &[R]) -> usize
     ensures exact { result + length rows.now ≡ length (merged R.place R.plus rows.now others.now) }
     ensures few { result ≤ length others.now }
@@ -63,8 +63,8 @@ fn count_missing<R: Summand>(rows: &[R], others: &[R]) -> usize
     missing
 }
 
-/// Merges the rows from an index on with others, into the list from its front. There is room for just the
-/// merged rows.
+// Merges the rows from an index on with others, into the list from its front. There is room for just the
+// merged rows.
 fn merge_from<R: Summand>(rows: &mut Seq<R>, from: usize, others: &[R])
     requires start { from ≤ length rows.old }
     requires room { length rows.old ≡ length (merged R.place R.plus (drop from rows.old) others.now) }
@@ -97,7 +97,7 @@ fn merge_from<R: Summand>(rows: &mut Seq<R>, from: usize, others: &[R])
     }
 }
 
-/// Takes the last rows away, down to so many.
+// Takes the last rows away, down to so many.
 fn shorten<R: Summand>(rows: &mut Seq<R>, len: usize)
     requires { len ≤ length rows.old }
     ensures { rows.new ≡ take len rows.old }
@@ -107,7 +107,7 @@ fn shorten<R: Summand>(rows: &mut Seq<R>, len: usize)
     }
 }
 
-/// Adds so many copies of the row at the end. On `Memory` the list is as before.
+// Adds so many copies of the row at the end. On `Memory` the list is as before.
 fn lengthen<R: Summand>(rows: &mut Seq<R>, more: usize, filler: R) -> Result<(), Memory>
     ensures ok { OnOk result (rows.new ≡ rows.old ++ replicate more filler) }
     ensures err { OnErr result (rows.new ≡ rows.old) }
@@ -122,7 +122,7 @@ fn lengthen<R: Summand>(rows: &mut Seq<R>, more: usize, filler: R) -> Result<(),
     Ok(())
 }
 
-/// Moves the first rows of the list to its end, over what is there.
+// Moves the first rows of the list to its end, over what is there.
 fn shift<R: Summand>(rows: &mut Seq<R>, len: usize, by: usize)
     requires { length rows.old ≡ len + by }
     ensures length { length rows.new ≡ length rows.old }
@@ -136,8 +136,8 @@ fn shift<R: Summand>(rows: &mut Seq<R>, len: usize, by: usize)
     }
 }
 
-/// Makes room for so many rows in front of the list, which are copies of some rows. On `Memory` the list is
-/// as before.
+// Makes room for so many rows in front of the list, which are copies of some rows. On `Memory` the list is
+// as before.
 fn make_room<R: Summand>(rows: &mut Seq<R>, more: usize, filler: R) -> Result<(), Memory>
     ensures room { OnOk result (length rows.new ≡ more + length rows.old) }
     ensures moved { OnOk result (drop more rows.new ≡ rows.old) }

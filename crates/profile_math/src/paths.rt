@@ -34,7 +34,7 @@ impl Summand for PathRow {
     }
 }
 
-/// The time in which any call was open.
+// The time in which any call was open.
 fn time_in_calls(rows: &[PathRow]) -> u128
     requires { sum_by (λ r. r.excl) rows.now < 2 ^ 128 }
     ensures { result ≡ sum_by (λ r. r.excl) rows.now }
@@ -42,7 +42,7 @@ fn time_in_calls(rows: &[PathRow]) -> u128
     rows.iter().map(|row| row.excl).sum()
 }
 
-/// Puts all rows one deeper, under the row of a call. On `Memory` the rows are as before.
+// Puts all rows one deeper, under the row of a call. On `Memory` the rows are as before.
 fn put_under(rows: &mut Seq<PathRow>, call: PathRow) -> Result<(), Memory>
     requires { All (λ r. r.depth + 1 < 2 ^ 16) rows.old }
     ensures ok { OnOk result (rows.new ≡ call ∷ map one_deeper rows.old) }
@@ -63,7 +63,7 @@ fn put_under(rows: &mut Seq<PathRow>, call: PathRow) -> Result<(), Memory>
     Ok(())
 }
 
-/// Whether a call over the content has a row.
+// Whether a call over the content has a row.
 fn has_row(begun: bool, content: &PathProfile) -> bool
     ensures { result ≡ call_stands begun content.now }
 {
