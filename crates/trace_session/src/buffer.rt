@@ -1,11 +1,10 @@
 ghost use Rattle.std.specs.Prelude.{◌≤◌, vec_capacity};
+ghost use Rattle.session_proto.specs.declared.write.TheConstants.{SHORT_REPLY};
 
 use request_reader::InputBuf;
+use session_proto::SHORT_REPLY;
 use std::alloc::Global;
 use trace_base::Memory;
-
-/// The room that a reply of one line needs, in bytes.
-const SHORT: usize = 200;
 
 /// The buffers of a session: for the bytes that wait and the text of a PUT, and for a reply. A reply of one
 /// line finds its room always.
@@ -13,14 +12,14 @@ const SHORT: usize = 200;
 pub struct SessionBuf {
     pub(crate) input: InputBuf,
     pub(crate) reply: Vec<u8>,
-    ghost room: { 200 ≤ vec_capacity reply },
+    ghost room: { SHORT_REPLY ≤ vec_capacity reply },
 }
 
 impl SessionBuf {
     /// Takes the buffers.
     pub fn new(alloc: Global) -> Result<SessionBuf, Memory> {
         let input = InputBuf::new(alloc)?;
-        let Ok(reply) = Vec::with_capacity(alloc, SHORT) else {
+        let Ok(reply) = Vec::with_capacity(alloc, SHORT_REPLY) else {
             return Err(Memory);
         };
         Ok(SessionBuf { input, reply })

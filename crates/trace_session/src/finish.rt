@@ -1,5 +1,6 @@
 ghost use Rattle.std.specs.Prelude.{◌≡◌, ◌≤◌, ◌⊎◌, vec_capacity};
 ghost use Rattle.trace_base.specs.Outside.{Rose};
+ghost use Rattle.session_proto.specs.declared.write.TheConstants.{SHORT_REPLY};
 ghost use Rattle.trace_session.specs.Run.{TellsLeft, status_of};
 ghost use Rattle.trace_session.specs.declared.sessions.End.TheVariants.{ReadFault, WriteFault};
 
@@ -18,7 +19,7 @@ const CUT: u8 = 6;
 /// Tells what is left of the loads behind a session, unless its sink failed, and answers the exit status. The
 /// buffer is for the line.
 pub fn tell_left<O: Sink>(output: &mut O, left: Left, end: End, text: &mut Vec<u8>) -> u8
-    requires { 200 ≤ vec_capacity text.old }
+    requires { SHORT_REPLY ≤ vec_capacity text.old }
     ensures told { TellsLeft end left (record { held = O.held output.old; faults = O.faults output.old })
         (record { held = O.held output.new; faults = O.faults output.new }) result }
     ensures later { O.faults output.old ≤ O.faults output.new }

@@ -1,5 +1,6 @@
 ghost use Rattle.std.specs.Prelude.{◌≡◌, ◌+◌, ◌≤◌, ◌++◌, length, vec_len, vec_capacity};
 ghost use Rattle.session_proto.specs.Reply.{spaced};
+ghost use Rattle.session_proto.specs.declared.write.TheConstants.{SHORT_REPLY};
 ghost use Rattle.trace_session.specs.Run.{left_text};
 
 use hall_history::Left;
@@ -7,7 +8,7 @@ use itoa::Buffer;
 
 /// Puts the line that tells what is left of the loads in place of what the buffer holds.
 pub fn left_into(left: Left, out: &mut Vec<u8>)
-    requires { 200 ≤ vec_capacity out.old }
+    requires { SHORT_REPLY ≤ vec_capacity out.old }
     ensures { out.new.items ≡ left_text left }
 {
     out.clear();
