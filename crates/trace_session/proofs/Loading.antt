@@ -9,7 +9,7 @@ use Rattle.hall_history.specs.declared.asks.PassState.{PassState}
 use Rattle.hall_history.specs.declared.asks.PassState.TheVariants.{Straight}
 use Rattle.trace_base.specs.declared.names.TraceInfo.{TraceInfo}
 use Rattle.trace_base.specs.declared.stream.TrackStream.{TrackStream}
-use Rattle.hall_trait.specs.Answers.{CoversAll, MakesLoadEntry, left_after}
+use Rattle.hall_trait.specs.Answers.{MakesLoadEntry, left_after}
 use Rattle.hall_history.specs.History.{Entry, Published, Sealed, Dropped, FitsTrack, info_of, info_opened}
 use Rattle.hall_history.specs.History.{published_tree}
 use Rattle.node_key.specs.declared.stake.Stake.{Stake}
@@ -156,13 +156,6 @@ Loading-more alone old now new id tracks finished s was pass place l next k same
           ∙ ap (λ (n : ℕ). state_at n (length tracks)) (sym count);
       tracks_of = AreTracksOf-more now.seen new.seen id tracks begins l.tracks_of;
     }
-
--- the pass is over all tracks
-pub Loading-covers : (alone : Bool) (old now : Seat) (id : ℕ) (tracks finished : List TrackStream)
-    (pass : LoadPass) → Loading alone old now id tracks finished pass → CoversAll now.seen pass
-Loading-covers alone old now id tracks finished pass l =
-    let known : info_of now.seen pass.id ≡ Some l.tracks_of.info = rw l.same l.tracks_of.opened in
-    record { from = l.from; to = rw known (l.to ∙ sym l.tracks_of.count) }
 
 -- the load ended with this entry, and nothing is left of the pass
 ended_load : (alone : Bool) (old now new : Seat) (id : ℕ) (tracks finished : List TrackStream)

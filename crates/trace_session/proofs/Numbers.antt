@@ -1,13 +1,10 @@
 -- What was told of the numbers of the store, from one moment to the next.
-use Rattle.std.proofs.Common.{◌≡◌, ◌≤◌, ℕ, zero, suc, inl, inr, List, [], ◌∷◌, Option, None, Some}
-use Rattle.std.proofs.Common.{Err, refl, ap, arith}
-use Rattle.std.specs.List.{AllByRecursion, AllZip}
+use Rattle.std.proofs.Common.{◌≡◌, ℕ, List, [], Option, None}
+use Rattle.std.proofs.Common.{refl}
+use Rattle.std.specs.List.{AllByRecursion}
 use Rattle.list_lemmas.proofs.Each.{all_mapped}
 use Rattle.shard_core.specs.Room.{Room}
-use Rattle.builders.specs.Spending.{BuildSpends, HasFullRoom, IsStoreSpent}
 use Rattle.hall_trait.specs.Answers.{NextsRise}
-use Rattle.hall_trait.specs.declared.answers.HallFault.{HallFault}
-use Rattle.hall_trait.specs.declared.answers.HallFault.TheVariants as fault
 use Rattle.session_proto.specs.declared.reply.Reply.{Reply}
 use Rattle.trace_session.specs.Served.{Served, TellsOfStore, spent_number}
 use Rattle.builders.proofs.Spending.{store_later}

@@ -1,4 +1,4 @@
-use Rattle.std.proofs.Common.{◌≡◌, Option, List, ℕ, true, None, Some, subst}
+use Rattle.std.proofs.Common.{List, true, None, Some, subst}
 use Rattle.hall_history.specs.Seat.{Seat}
 use Rattle.hall_history.specs.declared.left.Left.{Left}
 use Rattle.plain_hall.specs.PlainHall.{seat_of}
