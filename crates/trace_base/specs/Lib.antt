@@ -3,6 +3,7 @@ pub mod FoldExamples
 pub mod InOrder
 pub mod Info
 pub mod LegalExamples
+pub mod Lending
 pub mod Matrix
 pub mod MemSink
 pub mod MemSource

@@ -1,6 +1,8 @@
 ghost use Rattle.std.specs.Prelude.{◌≡◌, [], ◌∷◌, ◌++◌, ◌+◌, ◌<◌, length, slice_get, slice_set, take, ◌↔◌};
-ghost use Rattle.std.specs.Prelude.{IsTrue, IfOk, OnOk, OnErr, MatchOption};
+ghost use Rattle.std.specs.Prelude.{IsTrue, IfOk, OnOk, OnErr, MatchOption, Some};
+ghost use Rattle.std.specs.Borrow.{sem};
 ghost use Rattle.std.specs.Option.{option_copied};
+ghost use Rattle.trace_base.specs.Lending.{LendsItem};
 
 use crate::memory::Memory;
 use std::alloc::Global;
@@ -74,6 +76,15 @@ impl<T> Seq<T> {
         ensures { option_copied result ≡ slice_get self.now at }
     {
         self.items.get(at)
+    }
+
+    /// The item at an index, counted from 0, to be changed where it stands.
+    pub fn at_mut(&mut self, at: usize) -> &mut T
+        requires { at < length self.old }
+        ensures* changes { sem 𝓛 (LendsItem T.row self.entry at result) }
+        ensures item { slice_get self.old at ≡ Some result.now }
+    {
+        &mut self.items[at]
     }
 
     /// Takes the last item.
