@@ -1,29 +1,26 @@
 -- A table that tells what its lines so far make known has taken one more.
-use Rattle.std.proofs.Common.{◌≡◌, ℕ, inl, inr, List, [], ◌∷◌, ◌++◌, Bool, true, false, Option, Some, None}
-use Rattle.std.proofs.Common.{Result, Ok, Err, IfSome, cond, is_none, is_some, slice_get, nat_eq, refl, sym}
+use Rattle.std.proofs.Common.{◌≡◌, ℕ, List, [], ◌∷◌, ◌++◌, Bool, true, false, Option, Some, None}
+use Rattle.std.proofs.Common.{Result, Ok, Err, cond, is_some, nat_eq, refl, sym}
 use Rattle.std.proofs.Common.{◌∙◌, ap, subst}
 use Rattle.std.specs.List.{find}
 use Rattle.std.specs.Option.{option_and_then, option_map, option_map_or, option_or, option_to_list}
 use Rattle.std.proofs.lemmas.Bool.{true≢false}
 use Rattle.std.proofs.lemmas.List.{append-nil}
 use Rattle.indexmap.proofs.MapLemmas.{absent_from_lookup, insert_entry-absent}
-use Rattle.paje_defs.specs.declared.role.Role.{Role}
 use Rattle.paje_defs.specs.declared.definition.Definition.{Definition}
 use Rattle.paje_defs.specs.declared.begun.Begun.{Begun}
 use Rattle.paje_defs.specs.declared.def_fault.DefFault.{DefFault}
-use Rattle.paje_defs.specs.declared.def_fault.DefFault.TheVariants.{Shape, Nested, UnknownName, DoubleNumber}
-use Rattle.paje_defs.specs.declared.def_fault.DefFault.TheVariants.{UnknownType, MissingField, Memory}
-use Rattle.paje_defs.specs.Definition.{missing}
-use Rattle.paje_defs.specs.Lines.{Definitions, Line, begin_reason, begins_definition, begun_in}
+use Rattle.paje_lex.specs.declared.unread.Unread.{Unread}
+use Rattle.paje_lex.specs.declared.unread.Unread.TheVariants.{Memory, Refused}
+use Rattle.paje_lex.specs.Unread.{reason_told}
+use Rattle.paje_defs.specs.Lines.{Definitions, Line, begins_definition, begun_in}
 use Rattle.paje_defs.specs.Refusals.{Placed}
 use Rattle.paje_defs.specs.Lines.{complete_in}
-use Rattle.paje_defs.specs.Lines.{defined_by, defined_event, defined_number, definitions_of_lines, end_reason}
-use Rattle.paje_defs.specs.Lines.{ends_definition, definition_entry, field_of, field_reason, field_type}
-use Rattle.paje_defs.specs.Lines.{first_line}
-use Rattle.paje_defs.specs.Refusals.{first_of}
+use Rattle.paje_defs.specs.Lines.{defined_by, definitions_of_lines}
+use Rattle.paje_defs.specs.Lines.{ends_definition, definition_entry, field_of}
 use Rattle.paje_defs.specs.Lines.{definition_reason, definition_reason_at}
-use Rattle.paje_defs.specs.Refusals.{first_refused, refusal, taken, when}
-use Rattle.paje_defs.specs.Table.{TakesUnless, after, grown, with_ended}
+use Rattle.paje_defs.specs.Refusals.{first_refused, taken}
+use Rattle.paje_defs.specs.Table.{StopsAt, TakesUnless, after, grown, with_ended}
 use Rattle.paje_defs.proofs.OneMoreLine.{begun-more, begun_after, complete-more}
 use Rattle.paje_defs.proofs.PlacedMore.{refused-more}
 use Rattle.paje_defs.proofs.RefusedMore.{first-next, none_refused, refusal-next}
@@ -98,69 +95,6 @@ taken_next lines line none is =
     ∙ (ap (λ begun. all_of (complete_in (lines ++ line ∷ [])) begun None) (sym (begun-more lines line))
     ∙ sym (ap (known (lines ++ line ∷ [])) (first-next definition_reason_at lines line None none is))))
 
--- ---- no reason is want of memory
-
-abbrev pub is_memory : DefFault → Bool
-is_memory Memory = true
-is_memory _ = false
-
-abbrev pub NotMemory : Option DefFault → Type 0
-NotMemory why = IfSome why (λ fault. is_memory fault ≡ false)
-
-first_not_memory : (why : Option DefFault) (reasons : List (Option DefFault)) → NotMemory why
-    → NotMemory (first_of reasons) → NotMemory (first_of (why ∷ reasons))
-first_not_memory None reasons first rest = rest
-first_not_memory (Some fault) reasons first rest = first
-
-when_not_memory : (b : Bool) (fault : DefFault) → is_memory fault ≡ false → NotMemory (when b fault)
-when_not_memory true fault e = e
-when_not_memory false fault e = tt
-
-double_not_memory : (first : Option ℕ) → NotMemory (option_map (λ first. DoubleNumber first) first)
-double_not_memory None = tt
-double_not_memory (Some first) = refl
-
-missing_not_memory : (role : Option Role) → NotMemory (option_map (λ role. MissingField role) role)
-missing_not_memory None = tt
-missing_not_memory (Some role) = refl
-
-begin_not_memory : (entries : List (ℕ × Definition)) (begun : Option Begun) (words : List (List ℕ))
-    → NotMemory (begin_reason entries begun words)
-begin_not_memory entries begun words =
-    first_not_memory (when (is_none (defined_number words)) Shape) _
-    (when_not_memory (is_none (defined_number words)) Shape refl)
-    (first_not_memory (when (is_some begun) Nested) _ (when_not_memory (is_some begun) Nested refl)
-    (first_not_memory (when (is_none (defined_event words)) UnknownName) _
-    (when_not_memory (is_none (defined_event words)) UnknownName refl)
-    (first_not_memory (option_map (λ first. DoubleNumber first)
-    (option_and_then (first_line entries) (defined_number words))) []
-    (double_not_memory (option_and_then (first_line entries) (defined_number words))) tt)))
-
-field_not_memory : (begun : Option Begun) (words : List (List ℕ)) → NotMemory (field_reason begun words)
-field_not_memory begun words =
-    first_not_memory (when (is_none (slice_get words 1)) Shape) _
-    (when_not_memory (is_none (slice_get words 1)) Shape refl)
-    (first_not_memory (when (is_none begun) Shape) _ (when_not_memory (is_none begun) Shape refl)
-    (first_not_memory (when (is_none (field_type words)) UnknownType) []
-    (when_not_memory (is_none (field_type words)) UnknownType refl) tt))
-
-end_not_memory : (begun : Option Begun) → NotMemory (end_reason begun)
-end_not_memory begun =
-    first_not_memory (when (is_none begun) Shape) _ (when_not_memory (is_none begun) Shape refl)
-    (first_not_memory (option_map (λ role. MissingField role)
-    (option_and_then (λ b. missing b.definition.event b.definition.fields) begun)) []
-    (missing_not_memory (option_and_then (λ b. missing b.definition.event b.definition.fields) begun)) tt)
-
-not_memory : (entries : List (ℕ × Definition)) (begun : Option Begun) (words : List (List ℕ))
-    → NotMemory (definition_reason entries begun words)
-not_memory entries begun words = by (begins_definition words) (ends_definition words)
-  where
-    by : (b e : Bool) → NotMemory (cond b (begin_reason entries begun words)
-        (cond e (end_reason begun) (field_reason begun words)))
-    by true e = begin_not_memory entries begun words
-    by false true = end_not_memory begun
-    by false false = field_not_memory begun words
-
 -- ---- a table
 
 -- the lines before are all taken
@@ -172,7 +106,7 @@ all_before : (before : List Line) (old : Definitions) → old ≡ definitions_of
     → old ≡ all_of (complete_in before) (begun_in before) None
 all_before before old is e = is ∙ ap (known before) (none_before before old is e)
 
-abbrev pub TakesBy : Definitions → Line → Definitions → Result (Unit {0}) DefFault → Type 0
+abbrev pub TakesBy : Definitions → Line → Definitions → Result (Unit {0}) (Unread DefFault) → Type 0
 TakesBy old line new r = TakesUnless old new r (definition_reason old.complete old.begun line.words)
     (after old line)
 
@@ -199,30 +133,20 @@ takes_line before line old new r is e steps =
           (sym (ap (λ d. d.fault) is) ∙ e) by_facts.0,
     )
 
--- The line is refused.
-pub refuses_line : (before : List Line) (line : Line) (old new : Definitions) (fault : DefFault)
-    → old ≡ definitions_of_lines before → old.fault ≡ None → is_memory fault ≡ false
-    → TakesBy old line new (Err fault) → all_of new.complete new.begun (Some fault) ≡ definitions_of_lines
-    (before ++ line ∷ [])
-refuses_line before line old new fault is e apart (same, inl out) =
-    absurd (true≢false (sym (ap is_memory out.0) ∙ apart))
-refuses_line before line old new fault is e apart (same, inr why) =
-    let facts = all_before before old is e in
-    ap (λ d. all_of d.complete d.begun (Some fault)) (same ∙ facts)
-    ∙ refused_next before line fault (none_before before old is e)
-    (subst (λ d. definition_reason d.complete d.begun line.words ≡ Some fault) facts why)
-
--- Memory ran out.
-pub runs_out : (before : List Line) (line : Line) (old new : Definitions) (fault : DefFault)
-    → old ≡ definitions_of_lines before → old.fault ≡ None → fault ≡ Memory
-    → TakesBy old line new (Err fault) → (refusal definition_reason_at (before ++ line ∷ []) ≡ None)
-    × (new ≡ definitions_of_lines before)
-runs_out before line old new fault is e memory (same, inl out) = (
+-- The line is refused, or memory ran out.
+pub stops_at : (before : List Line) (line : Line) (old new : Definitions) (unread : Unread DefFault)
+    → old ≡ definitions_of_lines before → old.fault ≡ None → TakesBy old line new (Err unread)
+    → StopsAt before line (all_of new.complete new.begun (reason_told unread)) unread
+stops_at before line old new (Refused fault) is e (same, why) =
+    let facts = all_before before old is e in (
+      ap (λ d. all_of d.complete d.begun (Some fault)) (same ∙ facts)
+          ∙ refused_next before line fault (none_before before old is e)
+          (subst (λ d. definition_reason d.complete d.begun line.words ≡ Some fault) facts why),
+      refl,
+    )
+stops_at before line old new Memory is e (same, why) = (
   refusal-next definition_reason_at before line None (sym (ap (λ d. d.fault) is) ∙ e)
-      (subst (λ d. definition_reason d.complete d.begun line.words ≡ None) (all_before before old is e)
-      out.1),
-  same ∙ is,
+      (subst (λ d. definition_reason d.complete d.begun line.words ≡ None) (all_before before old is e) why),
+  ap (λ d. all_of d.complete d.begun None) same
+      ∙ (ap (all_of old.complete old.begun) (sym e) ∙ is),
 )
-runs_out before line old new fault is e memory (same, inr why) =
-    absurd (true≢false (sym (ap is_memory memory) ∙ subst NotMemory why
-    (not_memory old.complete old.begun line.words)))

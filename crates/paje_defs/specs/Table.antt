@@ -1,5 +1,5 @@
 -- What a table of definitions tells, and what a line does to it.
-use Rattle.std.specs.Prelude.{◌≡◌, ℕ, ◌⊎◌, List, [], ◌∷◌, ◌++◌, map, nat_eq, Option, Some, None, Result}
+use Rattle.std.specs.Prelude.{◌≡◌, ℕ, List, [], ◌∷◌, ◌++◌, map, nat_eq, Option, Some, None, Result}
 use Rattle.std.specs.Prelude.{MatchResult, if◌then◌else◌}
 use Rattle.std.specs.Option.{option_map, option_to_list}
 use Rattle.indexmap.specs.IndexMap.{insert_entry}
@@ -9,7 +9,9 @@ use Rattle.paje_defs.specs.declared.begun.Begun.{Begun}
 use Rattle.paje_defs.specs.declared.complete.Complete.{Complete}
 use Rattle.paje_defs.specs.declared.table.DefTable.{DefTable}
 use Rattle.paje_defs.specs.declared.def_fault.DefFault.{DefFault}
-use Rattle.paje_defs.specs.declared.def_fault.DefFault.TheVariants.{Memory}
+use Rattle.paje_lex.specs.declared.unread.Unread.{Unread}
+use Rattle.paje_lex.specs.declared.unread.Unread.TheVariants.{Memory, Refused}
+use Rattle.paje_lex.specs.Unread.{reason_told}
 use Rattle.paje_defs.specs.Lines.{Definitions, Line, begins_definition, defined_by, definitions_of_lines}
 use Rattle.paje_defs.specs.Lines.{ends_definition, field_of}
 use Rattle.paje_defs.specs.Lines.{definition_reason_at}
@@ -25,23 +27,28 @@ without_places entries = map (λ entry. (entry.0, entry.1.definition)) entries
 abbrev pub definitions_of : DefTable → Definitions
 definitions_of t = record { complete = without_places t.complete.entries; begun = t.begun; fault = t.fault }
 
--- A table of the lines before has taken one more, or tells the first refusal among them. Where memory ran out
--- it is as before, and no line is refused.
-abbrev pub TakesNext : {U : Type 0} → List Line → Line → Definitions → Result U DefFault → Type 0
+-- A table of the lines before has not taken one more. It tells the first refusal among them; or memory ran
+-- out, then it is as before, and no line is refused.
+abbrev pub StopsAt : List Line → Line → Definitions → Unread DefFault → Type 0
+StopsAt before line new (Refused fault) =
+    (new ≡ definitions_of_lines (before ++ line ∷ [])) × (new.fault ≡ Some fault)
+StopsAt before line new Memory =
+    (refusal definition_reason_at (before ++ line ∷ []) ≡ None) × (new ≡ definitions_of_lines before)
+
+-- A table of the lines before has taken one more, or stops at it.
+abbrev pub TakesNext : {U : Type 0} → List Line → Line → Definitions → Result U (Unread DefFault) → Type 0
 TakesNext before line new r = MatchResult r
     (λ _. (new ≡ definitions_of_lines (before ++ line ∷ [])) × (new.fault ≡ None))
-    (λ f. ((f ≡ Memory) × (refusal definition_reason_at (before ++ line ∷ []) ≡ None)
-    × (new ≡ definitions_of_lines before))
-    ⊎ ((new ≡ definitions_of_lines (before ++ line ∷ [])) × (new.fault ≡ Some f)))
+    (StopsAt before line new)
 
 -- ---- what its private calls do
 
--- Where there is no reason against it, a step gives what is wanted, or memory ran out. A refusal changes
--- nothing.
-abbrev pub TakesUnless : {U S : Type 0} → S → S → Result U DefFault → Option DefFault → S → Type 0
+-- Where there is no reason against it, a step gives what is wanted, or memory ran out. A call that gives
+-- nothing changes nothing.
+abbrev pub TakesUnless : {U S : Type 0} → S → S → Result U (Unread DefFault) → Option DefFault → S → Type 0
 TakesUnless old new r why wanted = MatchResult r
     (λ _. (why ≡ None) × (new ≡ wanted))
-    (λ f. (new ≡ old) × (((f ≡ Memory) × (why ≡ None)) ⊎ (why ≡ Some f)))
+    (λ unread. (new ≡ old) × (why ≡ reason_told unread))
 
 abbrev pub grown : List Field → Begun → Begun
 grown more b = record {

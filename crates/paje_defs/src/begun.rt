@@ -10,6 +10,7 @@ use crate::def_fault::DefFault;
 use crate::definition::Definition;
 use crate::field::Field;
 use crate::words::Words;
+use paje_lex::Unread;
 
 /// A definition that is begun and not ended.
 #[derive(Debug, Drop)]
@@ -20,18 +21,18 @@ pub struct Begun {
 
 impl Begun {
     /// Adds the field of a line.
-    pub(crate) fn add(&mut self, words: &Words<'_, '_>) -> Result<(), DefFault>
+    pub(crate) fn add(&mut self, words: &Words<'_, '_>) -> Result<(), Unread<DefFault>>
         ensures { TakesUnless self.old self.new result
             (when (is_none (field_type (words_in words.now))) UnknownType)
             (grown (option_to_list (field_of (words_in words.now))) self.old) }
     {
         let Some(kind) = words.field_type() else {
-            return Err(DefFault::UnknownType);
+            return Err(Unread::Refused(DefFault::UnknownType));
         };
         let name = words.field_name();
         match self.definition.fields.push(Field { name, kind }) {
             Ok(()) => Ok(()),
-            Err(_) => Err(DefFault::Memory),
+            Err(_) => Err(Unread::Memory),
         }
     }
 }

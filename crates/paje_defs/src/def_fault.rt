@@ -22,7 +22,4 @@ pub enum DefFault {
     /// The event needs a field of this role.
     #[error("no field of the role {0:?}")]
     MissingField(Role),
-    /// No memory was found.
-    #[error("out of memory")]
-    Memory,
 }

@@ -1,6 +1,7 @@
 ghost use Rattle.std.specs.Prelude.{◌≡◌, List, length, is_some, Some, Err, []};
 ghost use Rattle.std.specs.Option.{option_copied, option_map};
 ghost use Rattle.paje_lex.specs.LineGrammar.{StandIn};
+ghost use Rattle.paje_lex.specs.declared.unread.Unread.TheVariants.{Refused};
 ghost use Rattle.paje_defs.specs.declared.def_fault.DefFault.{DefFault};
 
 use crate::begun::Begun;
@@ -9,7 +10,7 @@ use crate::def_fault::DefFault;
 use crate::definition::Definition;
 use crate::words::Words;
 use indexmap::IndexMap;
-use paje_lex::Token;
+use paje_lex::{Token, Unread};
 use std::alloc::Global;
 use trace_base::Seq;
 
@@ -66,23 +67,23 @@ impl DefTable {
     }
 
     /// `%EventDef name number`
-    fn begin(&mut self, n: u32, words: &Words<'_, '_>) -> Result<(), DefFault>
+    fn begin(&mut self, n: u32, words: &Words<'_, '_>) -> Result<(), Unread<DefFault>>
         ensures { TakesUnless (definitions_of self.old) (definitions_of self.new) result
             (begin_reason (definitions_of self.old).complete (definitions_of self.old).begun
             (words_in words.now))
             (after_begin (definitions_of self.old) (numbered_line n (words_in words.now))) }
     {
         let Some(number) = words.defined_number() else {
-            return Err(DefFault::Shape);
+            return Err(Unread::Refused(DefFault::Shape));
         };
         if self.begun.is_some() {
-            return Err(DefFault::Nested);
+            return Err(Unread::Refused(DefFault::Nested));
         }
         let Some(event) = words.defined_event() else {
-            return Err(DefFault::UnknownName);
+            return Err(Unread::Refused(DefFault::UnknownName));
         };
         if let Some(first) = self.first_line(number) {
-            return Err(DefFault::DoubleNumber(first));
+            return Err(Unread::Refused(DefFault::DoubleNumber(first)));
         }
         self.begun = Some(Begun {
             number,
@@ -96,16 +97,16 @@ impl DefTable {
     }
 
     /// `% field type`
-    fn field(&mut self, words: &Words<'_, '_>) -> Result<(), DefFault>
+    fn field(&mut self, words: &Words<'_, '_>) -> Result<(), Unread<DefFault>>
         ensures { TakesUnless (definitions_of self.old) (definitions_of self.new) result
             (field_reason (definitions_of self.old).begun (words_in words.now))
             (after_field (definitions_of self.old) (words_in words.now)) }
     {
         if words.get(1).is_none() {
-            return Err(DefFault::Shape);
+            return Err(Unread::Refused(DefFault::Shape));
         }
         let Some(mut begun) = self.begun.take() else {
-            return Err(DefFault::Shape);
+            return Err(Unread::Refused(DefFault::Shape));
         };
         let added = begun.add(words);
         self.begun = Some(begun);
@@ -114,16 +115,16 @@ impl DefTable {
 
     /// `%EndEventDef`
     #[tactic(auto, using(crate::proofs::WithoutPlaces::insert_without))]
-    fn end(&mut self) -> Result<(), DefFault>
+    fn end(&mut self) -> Result<(), Unread<DefFault>>
         ensures { TakesUnless (definitions_of self.old) (definitions_of self.new) result
             (end_reason (definitions_of self.old).begun) (after_end (definitions_of self.old)) }
     {
         let Some(begun) = self.begun.take() else {
-            return Err(DefFault::Shape);
+            return Err(Unread::Refused(DefFault::Shape));
         };
         if let Some(role) = begun.definition.missing() {
             self.begun = Some(begun);
-            return Err(DefFault::MissingField(role));
+            return Err(Unread::Refused(DefFault::MissingField(role)));
         }
         let Begun { number, definition } = begun;
         match self.complete.insert(number, Complete::new(definition)) {
@@ -137,13 +138,13 @@ impl DefTable {
                     },
                 ) = failed.value;
                 self.begun = Some(Begun { number, definition });
-                Err(DefFault::Memory)
+                Err(Unread::Memory)
             }
         }
     }
 
     /// A definition line, as if none had been refused.
-    fn step(&mut self, n: u32, line: &[u8], tokens: &[Token]) -> Result<(), DefFault>
+    fn step(&mut self, n: u32, line: &[u8], tokens: &[Token]) -> Result<(), Unread<DefFault>>
         requires { StandIn (length line.now) tokens.now }
         ensures { TakesUnless (definitions_of self.old) (definitions_of self.new) result
             (definition_reason (definitions_of self.old).complete (definitions_of self.old).begun
@@ -163,31 +164,29 @@ impl DefTable {
     /// Takes a definition line, the `n`th of its text, with the tokens that it has.
     ///
     /// `%EventDef name number` begins a definition, `% field type` adds a field to it, and `%EndEventDef`
-    /// ends it; further tokens are dropped. After a refusal other than `Memory` each later call gives the
-    /// same refusal, and the definitions stay as before the refused line. After `Memory` the table is
-    /// unchanged.
+    /// ends it; further tokens are dropped. After a refusal each later call gives the same refusal, and the
+    /// definitions stay as before the refused line. After `Memory` the table is unchanged.
     ///
     /// # Errors
     ///
-    /// In this order: `Shape`, `Nested`, `UnknownName`, `DoubleNumber` for a begin; `Shape`, `UnknownType`
-    /// for a field; `Shape`, `MissingField` with the first role that is missing for an end. `Memory`.
-    pub fn line(&mut self, n: u32, line: &[u8], tokens: &[Token]) -> Result<(), DefFault>
+    /// `Refused` with the first of these: `Shape`, `Nested`, `UnknownName`, `DoubleNumber` for a begin;
+    /// `Shape`, `UnknownType` for a field; `Shape`, `MissingField` with the first role that is missing for an
+    /// end. `Memory`.
+    pub fn line(&mut self, n: u32, line: &[u8], tokens: &[Token]) -> Result<(), Unread<DefFault>>
         requires { StandIn (length line.now) tokens.now }
         // The table tells what its lines so far make known.
         ensures so_far { (before : List Line) → definitions_of self.old ≡ definitions_of_lines before
             → TakesNext before (numbered_line n (words_at_tokens line.now tokens.now))
             (definitions_of self.new) result }
         ensures refused { (fault : DefFault) → (definitions_of self.old).fault ≡ Some fault
-            → (result ≡ Err fault) × (definitions_of self.new ≡ definitions_of self.old) }
+            → (result ≡ Err (Refused fault)) × (definitions_of self.new ≡ definitions_of self.old) }
     {
         if let Some(fault) = self.fault {
-            return Err(fault);
+            return Err(Unread::Refused(fault));
         }
         let taken = self.step(n, line, tokens);
-        if let Err(fault) = taken {
-            if fault != DefFault::Memory {
-                self.fault = Some(fault);
-            }
+        if let Err(unread) = taken {
+            self.fault = unread.reason();
         }
         taken
     }

@@ -1,12 +1,12 @@
 -- No date is past the greatest time.
-use Rattle.std.proofs.Common.{◌≡◌, ℕ, ◌*◌, ◌/◌, ◌≤◌, ◌&&◌, Bool, true, false, cond, nat_lt, List, Option, Some, None}
-use Rattle.std.proofs.Common.{Result, Ok, Err, refl, sym, ◌∙◌, ap, subst, arith}
+use Rattle.std.proofs.Common.{◌≡◌, ℕ, ◌*◌, ◌/◌, ◌≤◌, Bool, true, false, cond, nat_lt, List, Option, Some, None}
+use Rattle.std.proofs.Common.{Result, Ok, Err, refl, sym, ap, subst}
 use Rattle.std.proofs.Math.Nat.{div-le_of_le-mul, mul_comm}
 use Rattle.std.proofs.lemmas.Bool.{ltb-false, true≢false}
 use Rattle.trace_base.specs.declared.limits.TheConstants.{MAX_TIME}
 use Rattle.paje_lex.specs.declared.date_fault.DateFault.{DateFault}
 use Rattle.paje_lex.specs.declared.date_fault.DateFault.TheVariants.{Big, Negative}
-use Rattle.paje_lex.specs.DateGrammar.{Date, date_digits, denominator, is_minus, numerator}
+use Rattle.paje_lex.specs.DateGrammar.{Date, denominator, numerator}
 use Rattle.paje_lex.specs.DateReading.{date_of, meaning_or_shape, parts_of}
 
 abbrev is_time : Result ℕ DateFault → Bool

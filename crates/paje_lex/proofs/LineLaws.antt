@@ -10,11 +10,14 @@ use Rattle.std.proofs.lemmas.Bool.{true≢false, eqb-true}
 use Rattle.list_lemmas.proofs.Fronts.{shorter_behind}
 use Rattle.paje_lex.specs.declared.token.Token.{Token}
 use Rattle.paje_lex.specs.declared.lex_fault.LexFault.{LexFault}
-use Rattle.paje_lex.specs.declared.lex_fault.LexFault.TheVariants.{NotText, OpenQuote, Memory}
+use Rattle.paje_lex.specs.declared.lex_fault.LexFault.TheVariants.{NotText, OpenQuote}
+use Rattle.paje_lex.specs.declared.unread.Unread.{Unread}
+use Rattle.paje_lex.specs.declared.unread.Unread.TheVariants.{Memory, Refused}
+use Rattle.paje_lex.specs.Unread.{UnlessMemory}
 use Rattle.paje_lex.specs.declared.state.State.TheVariants.{Between, Plain, Quoted}
 use Rattle.paje_lex.specs.LineKinds.{is_blank, tokens_start}
 use Rattle.paje_lex.specs.LineReading.{scan, joined, lexed}
-use Rattle.paje_lex.specs.LineGrammar.{Answer, token, UnlessMemory, Piece, blank, quoted, plain, piece_text}
+use Rattle.paje_lex.specs.LineGrammar.{Answer, token, Piece, blank, quoted, plain, piece_text}
 use Rattle.paje_lex.specs.LineGrammar.{pieces_text, NoQuotes, NoBlanks, IsPlain, IsPiece, MayStandBefore}
 use Rattle.paje_lex.specs.LineGrammar.{ArePieces, tokens_from, IsCut, IsOpen, body_of_line, Lexes}
 use Rattle.paje_lex.specs.LineGrammar.{LexesUnlessMemory}
@@ -330,7 +333,6 @@ lexed_only line (Err (NotText at)) (other, e) = lexed_not_text line other ∙ ap
 lexed_only line (Err (OpenQuote at)) (text, ps, rest, open', e) = lexed_text line text ∙
     (scan_unclosed (body_of_line line) ps rest (tokens_start line) open' ∙ ap (λ n. Err (OpenQuote n))
     (sym e))
-lexed_only line (Err Memory) none = absurd none
 
 text_lexes : (line : List ℕ) → IsUtf8 line → Cut (body_of_line line) → (wanted : Answer) × Lexes line wanted
 text_lexes line text (inl (ps, cut)) = (Ok (tokens_from (tokens_start line) ps), (text, ps, cut, refl))
@@ -356,11 +358,9 @@ lexed_found line =
     let P : Answer → Type 0 = λ x. Lexes line x in
     subst P (sym (lexed_only line some.0 some.1)) some.1
 
-pub told_found : (line : List ℕ) (r lexes : Answer) → Lexes line lexes → UnlessMemory r lexes
-    → LexesUnlessMemory line r
+pub told_found : (line : List ℕ) (r : Result (List Token) (Unread LexFault)) (lexes : Answer)
+    → Lexes line lexes → UnlessMemory r lexes → LexesUnlessMemory line r
 told_found line (Ok tokens) lexes is told = let P : Answer → Type 0 = λ x. Lexes line x in subst P told is
+told_found line (Err (Refused fault)) lexes is told = let P : Answer → Type 0 = λ x. Lexes line x
+    in subst P told is
 told_found line (Err Memory) lexes is told = tt
-told_found line (Err (NotText at)) lexes is told = let P : Answer → Type 0 = λ x. Lexes line x
-    in subst P told is
-told_found line (Err (OpenQuote at)) lexes is told = let P : Answer → Type 0 = λ x. Lexes line x
-    in subst P told is

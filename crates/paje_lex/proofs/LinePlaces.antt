@@ -9,7 +9,9 @@ use Rattle.paje_lex.specs.declared.lex_fault.LexFault.{LexFault}
 use Rattle.paje_lex.specs.declared.state.State.{State}
 use Rattle.paje_lex.specs.declared.state.State.TheVariants.{Between, Plain, Quoted}
 use Rattle.paje_lex.specs.LineKinds.{is_blank}
-use Rattle.paje_lex.specs.LineGrammar.{token, StandIn, UnlessMemory}
+use Rattle.paje_lex.specs.declared.unread.Unread.{Unread}
+use Rattle.paje_lex.specs.Unread.{UnlessMemory}
+use Rattle.paje_lex.specs.LineGrammar.{token, StandIn}
 use Rattle.paje_lex.specs.LineReading.{starting, step, scan, joined, IsBefore}
 
 -- the tokens end by a place
@@ -76,7 +78,8 @@ scan_ends state at (b ∷ bs) before =
     (later (at + 1 + length bs) (at + length (b ∷ bs)) (scan (step state b at).0 (at + 1) bs) (omega arith)
     (scan_ends (step state b at).0 (at + 1) bs next.1))
 
-placed : (end len : ℕ) (r wanted : Result (List Token) LexFault) → end ≤ len → IfOk wanted (EndBy end)
+placed : (end len : ℕ) (r : Result (List Token) (Unread LexFault)) (wanted : Result (List Token) LexFault)
+    → end ≤ len → IfOk wanted (EndBy end)
     → UnlessMemory r wanted → IfOk r (StandIn len)
 placed end len (Ok tokens) wanted le h told =
     let P : Result (List Token) LexFault → Type 0 = λ x. IfOk x (EndBy end) in
@@ -84,8 +87,8 @@ placed end len (Ok tokens) wanted le h told =
     (end_later end len tokens le (subst P told h))
 placed end len (Err e) wanted le h told = tt
 
-pub told_within : (r : Result (List Token) LexFault) (start : ℕ) (line : List ℕ) → start ≤ length line
-    → UnlessMemory r (scan Between start (drop start line)) → IfOk r (StandIn (length line))
+pub told_within : (r : Result (List Token) (Unread LexFault)) (start : ℕ) (line : List ℕ)
+    → start ≤ length line → UnlessMemory r (scan Between start (drop start line)) → IfOk r (StandIn (length line))
 told_within r start line le told =
     placed (start + length (drop start line)) (length line) r (scan Between start (drop start line))
     (simp length-drop (omega arith)) (scan_ends Between start (drop start line) tt) told

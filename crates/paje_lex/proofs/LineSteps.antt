@@ -9,10 +9,13 @@ use Rattle.std.proofs.lemmas.Bool.{false_from_ne_true}
 use Rattle.memchr.specs.Find.{NoneBefore, Nowhere, Passes, is_byte}
 use Rattle.paje_lex.specs.declared.token.Token.{Token}
 use Rattle.paje_lex.specs.declared.lex_fault.LexFault.{LexFault}
-use Rattle.paje_lex.specs.declared.lex_fault.LexFault.TheVariants.{NotText, OpenQuote, Memory}
+use Rattle.paje_lex.specs.declared.lex_fault.LexFault.TheVariants.{OpenQuote}
+use Rattle.paje_lex.specs.declared.unread.Unread.{Unread}
+use Rattle.paje_lex.specs.declared.unread.Unread.TheVariants.{Refused}
+use Rattle.paje_lex.specs.Unread.{UnlessMemory}
 use Rattle.paje_lex.specs.declared.state.State.TheVariants.{Between, Quoted}
 use Rattle.paje_lex.specs.LineKinds.{tokens_start}
-use Rattle.paje_lex.specs.LineGrammar.{token, NoQuotes, UnlessMemory, filled}
+use Rattle.paje_lex.specs.LineGrammar.{token, NoQuotes, filled}
 use Rattle.paje_lex.specs.LineReading.{scan, joined, lexed}
 use Rattle.paje_lex.proofs.DateLemmas.{slice_behind}
 use Rattle.paje_lex.proofs.LineLemmas.{lexed_text, told_of}
@@ -80,38 +83,35 @@ quoted_open line quote =
 
 -- ---- what is told
 
--- a fault is told, unless it is want of memory
-pub told_fault : (fault : LexFault) (wanted : Result (List Token) LexFault) → wanted ≡ Err fault
-    → UnlessMemory (Err fault) wanted
-told_fault (NotText at) wanted e = e
-told_fault (OpenQuote quote) wanted e = e
-told_fault Memory wanted e = tt
-
-pub told_alone : (tokens : List Token) (r wanted : Result (List Token) LexFault) → tokens ≡ []
-    → UnlessMemory r (joined tokens wanted) → UnlessMemory r wanted
+pub told_alone : (tokens : List Token) (r : Result (List Token) (Unread LexFault))
+    (wanted : Result (List Token) LexFault) → tokens ≡ [] → UnlessMemory r (joined tokens wanted)
+    → UnlessMemory r wanted
 told_alone tokens r wanted none told = told_of r (joined tokens wanted) wanted
     (ap (λ ts. joined ts wanted) none ∙ joined_nothing wanted) told
 
 -- what is read of a line of text from where its tokens begin
-pub told_text : (line : List ℕ) (start : ℕ) (r : Result (List Token) LexFault) → start ≡ tokens_start line
-    → IsUtf8 line → UnlessMemory r (scan Between start (drop start line)) → UnlessMemory r (lexed line)
+pub told_text : (line : List ℕ) (start : ℕ) (r : Result (List Token) (Unread LexFault))
+    → start ≡ tokens_start line → IsUtf8 line → UnlessMemory r (scan Between start (drop start line))
+    → UnlessMemory r (lexed line)
 told_text line start r at text told = told_of r (scan Between start (drop start line)) (lexed line)
     (ap (λ n. scan Between n (drop n line)) at ∙ sym (lexed_text line text)) told
 
 -- what is told by a call that gives up with a fault
-pub same_fault : {T : Type 0} (r : Result T LexFault) (fault : LexFault) → IsErrAnd r (λ e. e ≡ fault)
-    → r ≡ Err fault
-same_fault (Ok x) fault gives = absurd gives
-same_fault (Err given) fault gives = ap Err gives
+pub same_fault : {T : Type 0} (r : Result T (Unread LexFault)) (given : Unread LexFault)
+    → IsErrAnd r (λ e. e ≡ given) → r ≡ Err given
+same_fault (Ok x) given gives = absurd gives
+same_fault (Err told) given gives = ap Err gives
 
-pub told_given_up : (tokens : List Token) (r : Result (Unit {0}) LexFault) (fault : LexFault)
-    (wanted : Result (List Token) LexFault) → IsErrAnd r (λ e. e ≡ fault) → wanted ≡ Err fault
+pub told_given_up : (tokens : List Token) (r : Result (Unit {0}) (Unread LexFault)) (fault : LexFault)
+    (wanted : Result (List Token) LexFault) → IsErrAnd r (λ e. e ≡ Refused fault) → wanted ≡ Err fault
     → UnlessMemory (filled tokens r) wanted
-told_given_up tokens (Ok done) fault wanted gives e = absurd gives
-told_given_up tokens (Err given) fault wanted gives e = told_fault given wanted (e ∙ ap Err (sym gives))
+told_given_up tokens r fault wanted gives e =
+    let Told : Result (Unit {0}) (Unread LexFault) → Type 0 = λ x. UnlessMemory (filled tokens x) wanted in
+    subst Told (sym (same_fault r (Refused fault) gives)) e
 
-pub told_again : (r : Result (List Token) LexFault) (fault : LexFault) (wanted : Result (List Token) LexFault)
-    → IsErrAnd r (λ e. e ≡ fault) → UnlessMemory (Err fault) wanted → UnlessMemory r wanted
-told_again r fault wanted gives told =
-    let Told : Result (List Token) LexFault → Type 0 = λ x. UnlessMemory x wanted in
-    subst Told (sym (same_fault r fault gives)) told
+pub told_again : (r : Result (List Token) (Unread LexFault)) (given : Unread LexFault)
+    (wanted : Result (List Token) LexFault) → IsErrAnd r (λ e. e ≡ given) → UnlessMemory (Err given) wanted
+    → UnlessMemory r wanted
+told_again r given wanted gives told =
+    let Told : Result (List Token) (Unread LexFault) → Type 0 = λ x. UnlessMemory x wanted in
+    subst Told (sym (same_fault r given gives)) told

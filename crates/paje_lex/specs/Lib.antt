@@ -3,3 +3,4 @@ pub mod DateReading
 pub mod LineGrammar
 pub mod LineKinds
 pub mod LineReading
+pub mod Unread

@@ -5,7 +5,9 @@ use Rattle.std.specs.List.{AllByRecursion}
 use Rattle.std.specs.Str.Lossy.{utf8_valid_len}
 use Rattle.paje_lex.specs.declared.token.Token.{Token}
 use Rattle.paje_lex.specs.declared.lex_fault.LexFault.{LexFault}
-use Rattle.paje_lex.specs.declared.lex_fault.LexFault.TheVariants.{NotText, OpenQuote, Memory}
+use Rattle.paje_lex.specs.declared.lex_fault.LexFault.TheVariants.{NotText, OpenQuote}
+use Rattle.paje_lex.specs.declared.unread.Unread.{Unread}
+use Rattle.paje_lex.specs.declared.unread.Unread.TheVariants.{Memory, Refused}
 use Rattle.paje_lex.specs.LineKinds.{is_blank, tokens_start}
 
 -- what a line gives: its tokens, or what is wrong with it
@@ -87,33 +89,24 @@ pub record IsOpen (bytes : List ℕ) (ps : List Piece) (rest : List ℕ) : Type 
 abbrev pub body_of_line : List ℕ → List ℕ
 body_of_line line = drop (tokens_start line) line
 
--- A line has these tokens, or this is wrong with it. Nothing wrong with a line is want of memory.
+-- A line has these tokens, or this is wrong with it.
 abbrev pub Lexes : List ℕ → Answer → Type 0
 Lexes line (Ok tokens) = IsUtf8 line × (ps : List Piece) × IsCut (body_of_line line) ps
     × (tokens ≡ tokens_from (tokens_start line) ps)
 Lexes line (Err (NotText at)) = ¬ (IsUtf8 line) × (at ≡ utf8_valid_len line)
 Lexes line (Err (OpenQuote at)) = IsUtf8 line × (ps : List Piece) × (rest : List ℕ)
     × IsOpen (body_of_line line) ps rest × (at ≡ tokens_start line + length (pieces_text ps))
-Lexes line (Err Memory) = ⊥
 
 -- what a call gave that filled a list with these tokens
-abbrev pub filled : List Token → Result (Unit {0}) LexFault → Answer
+abbrev pub filled : List Token → Result (Unit {0}) (Unread LexFault) → Result (List Token) (Unread LexFault)
 filled tokens (Ok done) = Ok tokens
 filled tokens (Err e) = Err e
 
 -- what a call gave, where it isn't want of memory
-abbrev pub LexesUnlessMemory : List ℕ → Result (List Token) LexFault → Type 0
+abbrev pub LexesUnlessMemory : List ℕ → Result (List Token) (Unread LexFault) → Type 0
 LexesUnlessMemory line (Ok tokens) = Lexes line (Ok tokens)
-LexesUnlessMemory line (Err (NotText at)) = Lexes line (Err (NotText at))
-LexesUnlessMemory line (Err (OpenQuote at)) = Lexes line (Err (OpenQuote at))
+LexesUnlessMemory line (Err (Refused fault)) = Lexes line (Err fault)
 LexesUnlessMemory line (Err Memory) = Unit {0}
-
--- the result is this, unless memory ran out
-abbrev pub UnlessMemory : Result (List Token) LexFault → Result (List Token) LexFault → Type 0
-UnlessMemory (Ok tokens) wanted = wanted ≡ Ok tokens
-UnlessMemory (Err Memory) wanted = Unit {0}
-UnlessMemory (Err (NotText at)) wanted = wanted ≡ Err (NotText at)
-UnlessMemory (Err (OpenQuote at)) wanted = wanted ≡ Err (OpenQuote at)
 
 -- the tokens stand in a line of this length
 abbrev pub StandIn : ℕ → List Token → Type 0

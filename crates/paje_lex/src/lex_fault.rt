@@ -1,7 +1,7 @@
 ghost use Rattle.std.specs.Prelude.{◌≡◌};
 
+use crate::unread::Unread;
 use thiserror::Error;
-use trace_base::Memory;
 
 /// Why a line has no tokens.
 #[derive(Clone, Copy, Debug, PartialEq, Eq, Error)]
@@ -12,17 +12,14 @@ pub enum LexFault {
     /// A quote isn't closed; with its place, in bytes counted from 0.
     #[error("the quote at byte {0} isn't closed")]
     OpenQuote(u32),
-    /// No memory was found.
-    #[error("out of memory")]
-    Memory,
 }
 
-impl From<Memory> for LexFault {
-    ghost use Rattle.paje_lex.specs.declared.lex_fault.LexFault.TheVariants.{Memory};
+impl From<LexFault> for Unread<LexFault> {
+    ghost use Rattle.paje_lex.specs.declared.unread.Unread.TheVariants.{Refused};
 
-    ghost from_gives = { λ _ e. e ≡ Memory };
+    ghost from_gives = { λ fault e. e ≡ Refused fault };
 
-    fn from(_: Memory) -> LexFault {
-        LexFault::Memory
+    fn from(fault: LexFault) -> Unread<LexFault> {
+        Unread::Refused(fault)
     }
 }

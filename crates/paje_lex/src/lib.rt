@@ -11,6 +11,7 @@ mod powers;
 mod short_dates;
 mod state;
 mod token;
+mod unread;
 
 pub use date_fault::DateFault;
 pub use dates::date;
@@ -19,3 +20,4 @@ pub use lex_fault::LexFault;
 pub use line::{tokens, tokens_into};
 pub use line_kinds::{is_definition, is_skipped};
 pub use token::Token;
+pub use unread::Unread;

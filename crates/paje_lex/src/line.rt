@@ -1,14 +1,15 @@
 ghost use Rattle.std.specs.Prelude.{◌≡◌, ℕ, ◌+◌, ◌<◌, ◌≤◌, [], ◌∷◌, IfOk, IsUtf8, MatchResult, drop, length};
 ghost use Rattle.std.specs.Str.Lossy.{utf8_valid_len};
 ghost use Rattle.paje_lex.specs.LineKinds.{tokens_start};
-ghost use Rattle.paje_lex.specs.LineGrammar.{Answer, Lexes, LexesUnlessMemory, StandIn, UnlessMemory};
-ghost use Rattle.paje_lex.specs.LineGrammar.{filled, token};
+ghost use Rattle.paje_lex.specs.LineGrammar.{Answer, Lexes, LexesUnlessMemory, StandIn, filled, token};
 ghost use Rattle.paje_lex.specs.LineReading.{StepsOver, joined, lexed, scan};
+ghost use Rattle.paje_lex.specs.Unread.{UnlessMemory};
 
 use crate::lex_fault::LexFault;
 use crate::line_kinds::{is_blank, start_of};
 use crate::state::State;
 use crate::token::Token;
+use crate::unread::Unread;
 use memchr::memchr;
 use std::alloc::Global;
 use trace_base::{MAX_TRACE_LINE, Seq};
@@ -85,7 +86,7 @@ fn step_at(line: &[u8], at: usize) -> Result<Step, LexFault>
 }
 
 /// Adds the tokens of a line that is text, from a place on.
-fn scan(tokens: &mut Seq<Token>, line: &[u8], start: usize) -> Result<(), LexFault>
+fn scan(tokens: &mut Seq<Token>, line: &[u8], start: usize) -> Result<(), Unread<LexFault>>
     requires short { length line.now ≤ MAX_TRACE_LINE }
     requires within { start ≤ length line.now }
     ensures { UnlessMemory (filled tokens.new result)
@@ -123,8 +124,9 @@ fn demand_text(line: &[u8]) -> Result<(), LexFault>
 ///
 /// # Errors
 ///
-/// `NotText` where the line isn't UTF-8; else `OpenQuote` where a quote isn't closed; `Memory`.
-pub fn tokens_into(tokens: &mut Seq<Token>, line: &[u8]) -> Result<(), LexFault>
+/// `Refused` with `NotText` where the line isn't UTF-8, else with `OpenQuote` where a quote isn't closed;
+/// `Memory`.
+pub fn tokens_into(tokens: &mut Seq<Token>, line: &[u8]) -> Result<(), Unread<LexFault>>
     requires { length line.now ≤ MAX_TRACE_LINE }
     ensures found { LexesUnlessMemory line.now (filled tokens.new result) }
     ensures only { (wanted : Answer) → Lexes line.now wanted → UnlessMemory (filled tokens.new result) wanted }
@@ -144,8 +146,9 @@ pub fn tokens_into(tokens: &mut Seq<Token>, line: &[u8]) -> Result<(), LexFault>
 ///
 /// # Errors
 ///
-/// `NotText` where the line isn't UTF-8; else `OpenQuote` where a quote isn't closed; `Memory`.
-pub fn tokens(alloc: Global, line: &[u8]) -> Result<Seq<Token>, LexFault>
+/// `Refused` with `NotText` where the line isn't UTF-8, else with `OpenQuote` where a quote isn't closed;
+/// `Memory`.
+pub fn tokens(alloc: Global, line: &[u8]) -> Result<Seq<Token>, Unread<LexFault>>
     requires { length line.now ≤ MAX_TRACE_LINE }
     // What is told is so by the grammar.
     ensures found { LexesUnlessMemory line.now result }
@@ -155,7 +158,7 @@ pub fn tokens(alloc: Global, line: &[u8]) -> Result<Seq<Token>, LexFault>
     ensures exact { UnlessMemory result (lexed line.now) }
 {
     let Ok(room) = Vec::with_capacity(alloc, line.len() / 2 + 1) else {
-        return Err(LexFault::Memory);
+        return Err(Unread::Memory);
     };
     let mut tokens = Seq::from_vec(room);
     tokens_into(&mut tokens, line)?;

@@ -2,8 +2,8 @@ ghost use Rattle.std.specs.Prelude.{◌≡◌};
 
 use crate::what::What;
 use paje_defs::Role;
+use paje_lex::Unread;
 use thiserror::Error;
-use trace_base::Memory;
 
 /// Why an event line is refused by the lines before it.
 #[derive(Clone, Copy, Debug, PartialEq, Eq, Error)]
@@ -32,17 +32,14 @@ pub enum ModelFault {
     /// As many as may be are there.
     #[error("too many {0:?}")]
     TooMany(What),
-    /// No memory was found.
-    #[error("out of memory")]
-    Memory,
 }
 
-impl From<Memory> for ModelFault {
-    ghost use Rattle.paje_lines.specs.declared.model_fault.ModelFault.TheVariants.{Memory};
+impl From<ModelFault> for Unread<ModelFault> {
+    ghost use Rattle.paje_lex.specs.declared.unread.Unread.TheVariants.{Refused};
 
-    ghost from_gives = { λ _ e. e ≡ Memory };
+    ghost from_gives = { λ fault e. e ≡ Refused fault };
 
-    fn from(_: Memory) -> ModelFault {
-        ModelFault::Memory
+    fn from(fault: ModelFault) -> Unread<ModelFault> {
+        Unread::Refused(fault)
     }
 }

@@ -1,8 +1,9 @@
 -- What the entities of a trace stand for: the lines that they were told.
-use Rattle.std.specs.Prelude.{◌≡◌, ◌⊎◌, List, [], ◌∷◌, ◌++◌, Some, None, Result, MatchResult}
+use Rattle.std.specs.Prelude.{◌≡◌, List, [], ◌∷◌, ◌++◌, Some, None, Result, MatchResult}
+use Rattle.paje_lex.specs.declared.unread.Unread.{Unread}
+use Rattle.paje_lex.specs.Unread.{IsRefusedFor}
 use Rattle.paje_lines.specs.declared.effect.Effect.{Effect}
 use Rattle.paje_lines.specs.declared.model_fault.ModelFault.{ModelFault}
-use Rattle.paje_lines.specs.declared.model_fault.ModelFault.TheVariants.{Memory}
 use Rattle.paje_lines.specs.Containers.{greatest}
 use Rattle.paje_lines.specs.Effects.{effect}
 use Rattle.paje_lines.specs.EventLine.{EventLine}
@@ -22,8 +23,8 @@ IsOpen e = e.fault ≡ None → (lines : List EventLine) × StandsFor lines e
 
 -- A line behind these that isn't refused has its effect, and they stand for one line more; one that is
 -- refused is told with its reason, which stays. Want of memory is free.
-abbrev pub Applies : List EventLine → EventLine → Entities → Result Effect ModelFault → Type 0
+abbrev pub Applies : List EventLine → EventLine → Entities → Result Effect (Unread ModelFault) → Type 0
 Applies before line new r = MatchResult r
     (λ done. (event_reason before line ≡ None) × (done ≡ effect before line)
     × StandsFor (before ++ line ∷ []) new)
-    (λ fault. (fault ≡ Memory) ⊎ ((event_reason before line ≡ Some fault) × (new.fault ≡ Some fault)))
+    (λ unread. IsRefusedFor (event_reason before line) unread × (new.fault ≡ Some unread))

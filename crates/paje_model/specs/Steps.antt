@@ -1,8 +1,9 @@
 -- What one more line does to what is known of the lines before it.
-use Rattle.std.specs.Prelude.{◌≡◌, ◌⊎◌, List, [], ◌∷◌, ◌++◌, Option, Some, None, Result, MatchResult}
+use Rattle.std.specs.Prelude.{◌≡◌, List, [], ◌∷◌, ◌++◌, Option, None, Result, MatchResult}
+use Rattle.paje_lex.specs.declared.unread.Unread.{Unread}
+use Rattle.paje_lex.specs.Unread.{IsRefusedFor}
 use Rattle.paje_lines.specs.declared.effect.Effect.{Effect}
 use Rattle.paje_lines.specs.declared.model_fault.ModelFault.{ModelFault}
-use Rattle.paje_lines.specs.declared.model_fault.ModelFault.TheVariants.{Memory}
 use Rattle.paje_lines.specs.EventLine.{EventLine}
 use Rattle.paje_model.specs.declared.known.Known.{Known}
 use Rattle.paje_model.specs.Known.{IsKnown}
@@ -16,7 +17,7 @@ pub record Step : Type 0 where
 
 -- Where there is no reason against the line, it does this, and it is known with those before it. Want of
 -- memory is free.
-abbrev pub Takes : Step → Known → Result Effect ModelFault → Type 0
+abbrev pub Takes : Step → Known → Result Effect (Unread ModelFault) → Type 0
 Takes step new r = MatchResult r
     (λ done. (step.reason ≡ None) × (done ≡ step.effect) × IsKnown (step.before ++ step.line ∷ []) new)
-    (λ fault. (fault ≡ Memory) ⊎ (step.reason ≡ Some fault))
+    (IsRefusedFor step.reason)

@@ -13,6 +13,7 @@ use crate::found::{alias_of, text_of};
 use crate::known::Known;
 use crate::room::room;
 use paje_defs::{Fields, Role};
+use paje_lex::Unread;
 use paje_lines::{Effect, ModelFault, What};
 
 impl Known {
@@ -33,7 +34,7 @@ impl Known {
     }
 
     /// A container.
-    pub fn create(&mut self, n: u32, fields: &Fields<'_>) -> Result<Effect, ModelFault>
+    pub fn create(&mut self, n: u32, fields: &Fields<'_>) -> Result<Effect, Unread<ModelFault>>
         requires known { IsOfLines self.old }
         requires event { (line_of n fields.now).event ≡ CreateContainer }
         ensures { (before : List EventLine) → IsKnown before self.old → Takes (record {

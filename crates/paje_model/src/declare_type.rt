@@ -7,6 +7,7 @@ ghost use Rattle.paje_lines.specs.Reasons.{define_reason, define_link_reason};
 
 use crate::known::Known;
 use paje_defs::{Fields, Role};
+use paje_lex::Unread;
 use paje_lines::{Effect, ModelFault};
 
 impl Known {
@@ -14,7 +15,7 @@ impl Known {
     ghost use Rattle.paje_model.specs.Steps.{Takes};
 
     /// A type of containers, of states, of punctual events or of variables.
-    pub fn define(&mut self, n: u32, fields: &Fields<'_>) -> Result<Effect, ModelFault>
+    pub fn define(&mut self, n: u32, fields: &Fields<'_>) -> Result<Effect, Unread<ModelFault>>
         requires known { IsOfLines self.old }
         requires event { is_plain_type (line_of n fields.now).event ≡ true }
         ensures { (before : List EventLine) → IsKnown before self.old → Takes (record {
@@ -29,7 +30,7 @@ impl Known {
     }
 
     /// A link type.
-    pub fn define_link(&mut self, n: u32, fields: &Fields<'_>) -> Result<Effect, ModelFault>
+    pub fn define_link(&mut self, n: u32, fields: &Fields<'_>) -> Result<Effect, Unread<ModelFault>>
         requires known { IsOfLines self.old }
         requires event { (line_of n fields.now).event ≡ DefineLinkType }
         ensures { (before : List EventLine) → IsKnown before self.old → Takes (record {

@@ -12,6 +12,7 @@ use crate::found::{alias_of, text_of};
 use crate::known::Known;
 use crate::room::may_declare;
 use paje_defs::{Fields, Role};
+use paje_lex::Unread;
 use paje_lines::{Effect, ModelFault, What};
 
 impl Known {
@@ -30,7 +31,11 @@ impl Known {
     }
 
     /// A value of a type; one of another type than a state type is dropped.
-    pub fn define_value(&mut self, n: u32, fields: &Fields<'_>) -> Result<Effect, ModelFault>
+    pub fn define_value(
+        &mut self,
+        n: u32,
+        fields: &Fields<'_>,
+    ) -> Result<Effect, Unread<ModelFault>>
         requires known { IsOfLines self.old }
         requires event { (line_of n fields.now).event ≡ DefineEntityValue }
         ensures { (before : List EventLine) → IsKnown before self.old → Takes (record {

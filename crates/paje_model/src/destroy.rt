@@ -10,6 +10,7 @@ ghost use Rattle.paje_model.specs.Finds.{Finds};
 use crate::container_table::Existing;
 use crate::known::Known;
 use paje_defs::{Fields, Role};
+use paje_lex::Unread;
 use paje_lines::{Effect, ModelFault};
 
 /// The container at a place may be destroyed at this time; the root, which is at 0, may not.
@@ -35,7 +36,7 @@ impl Known {
     ghost use Rattle.paje_model.specs.Steps.{Takes};
 
     /// The end of a container.
-    pub fn destroy(&mut self, n: u32, fields: &Fields<'_>) -> Result<Effect, ModelFault>
+    pub fn destroy(&mut self, n: u32, fields: &Fields<'_>) -> Result<Effect, Unread<ModelFault>>
         requires known { IsOfLines self.old }
         requires event { (line_of n fields.now).event ≡ DestroyContainer }
         ensures { (before : List EventLine) → IsKnown before self.old → Takes (record {

@@ -3,9 +3,11 @@ ghost use Rattle.std.specs.Prelude.{◌≡◌, List, [], IfOk, Some, None, Err};
 ghost use Rattle.paje_lines.specs.EventLine.{EventLine, line_of};
 ghost use Rattle.paje_lines.specs.Text.{text_said};
 ghost use Rattle.paje_lines.specs.declared.model_fault.ModelFault.{ModelFault};
+ghost use Rattle.paje_lex.specs.declared.unread.Unread.{Unread};
 
 use crate::known::Known;
 use paje_defs::Fields;
+use paje_lex::Unread;
 use paje_lines::{Effect, ModelFault};
 use std::alloc::Global;
 use trace_base::{Memory, TraceText};
@@ -16,8 +18,8 @@ pub struct Entities {
     known: Known,
     /// The greatest time of all lines, in nanoseconds.
     greatest: u64,
-    /// The first refusal.
-    fault: Option<ModelFault>,
+    /// Why the first line that wasn't taken was not: a reason against it, or want of memory.
+    fault: Option<Unread<ModelFault>>,
 }
 
 impl Entities {
@@ -34,32 +36,40 @@ impl Entities {
         })
     }
 
-    /// Takes an event line, the `n`th of its text, with what it tells, and says what it does. After a refusal
+    /// Takes an event line, the `n`th of its text, with what it tells, and says what it does. After an error
     /// each later call gives the same one; after `Memory` the entities may only be dropped.
     ///
     /// # Errors
     ///
-    /// The first reason against the line, by the lines before it, in the order in which its event checks
-    /// them; `Memory`.
-    pub fn apply(&mut self, n: u32, fields: &Fields<'_>) -> Result<Effect, ModelFault>
+    /// `Refused` with the first reason against the line, by the lines before it, in the order in which its
+    /// event checks them; `Memory`.
+    pub fn apply(&mut self, n: u32, fields: &Fields<'_>) -> Result<Effect, Unread<ModelFault>>
         requires { IsOpen self.old }
         ensures exact { (before : List EventLine) → StandsFor before self.old
             → Applies before (line_of n fields.now) self.new result }
-        ensures refused { (fault : ModelFault) → self.old.fault ≡ Some fault
-            → (result ≡ Err fault) × (self.new ≡ self.old) }
+        ensures refused { (unread : Unread ModelFault) → self.old.fault ≡ Some unread
+            → (result ≡ Err unread) × (self.new ≡ self.old) }
     {
-        if let Some(fault) = self.fault {
-            return Err(fault);
+        if let Some(unread) = self.fault {
+            return Err(unread);
         }
         let taken = self.known.take(n, fields);
         self.greatest = self.greatest.max(fields.time());
-        if let Err(fault) = taken {
-            self.fault = Some(fault);
+        if let Err(unread) = taken {
+            self.fault = Some(unread);
         }
         taken
     }
 
     /// What the lines say. Calls that are open are left where their tracks end.
+    ///
+    /// It stands for entities that took each line they were told. Who has had an error from
+    /// [`Entities::apply`], a refusal or `Memory`, can't show the `requires`: the entities may then only be
+    /// dropped, and nothing is said of them.
+    ///
+    /// # Errors
+    ///
+    /// `Memory` where none was found for the trace.
     pub fn finish(self) -> Result<TraceText, Memory>
         requires { (lines : List EventLine) × StandsFor lines self }
         ensures { (lines : List EventLine) → StandsFor lines self

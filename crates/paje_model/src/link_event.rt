@@ -9,6 +9,7 @@ use crate::found::text_of;
 use crate::known::Known;
 use crate::room::room;
 use paje_defs::{EventName, Fields, Role};
+use paje_lex::Unread;
 use paje_lines::{Effect, ModelFault, What};
 use std::alloc::Global;
 use trace_base::{LinkEvent, Memory, Name};
@@ -68,7 +69,7 @@ impl Known {
     ghost use Rattle.paje_model.specs.Steps.{Takes};
 
     /// One end of a message.
-    pub fn link_event(&mut self, n: u32, fields: &Fields<'_>) -> Result<Effect, ModelFault>
+    pub fn link_event(&mut self, n: u32, fields: &Fields<'_>) -> Result<Effect, Unread<ModelFault>>
         requires known { IsOfLines self.old }
         requires event { is_link_event (line_of n fields.now).event ≡ true }
         ensures { (before : List EventLine) → IsKnown before self.old → Takes (record {

@@ -14,6 +14,7 @@ use crate::known::Known;
 use crate::room::may_declare;
 use crate::value_table::ValueTable;
 use paje_defs::{EventName, Fields, Role};
+use paje_lex::Unread;
 use paje_lines::{Effect, ModelFault, TypeSort, What};
 use trace_base::Memory;
 
@@ -77,7 +78,11 @@ impl Known {
     }
 
     /// Declares the type of a line of which nothing else is amiss. After `Memory` it may only be dropped.
-    pub fn declare_type(&mut self, n: u32, fields: &Fields<'_>) -> Result<Effect, ModelFault>
+    pub fn declare_type(
+        &mut self,
+        n: u32,
+        fields: &Fields<'_>,
+    ) -> Result<Effect, Unread<ModelFault>>
         requires known { IsOfLines self.old }
         requires event { is_some (sort_of [] (line_of n fields.now).event) ≡ true }
         ensures { (before : List EventLine) → IsKnown before self.old

@@ -17,6 +17,7 @@ use crate::state_met::StateMet;
 use crate::state_spot::StateSpot;
 use crate::track_table::Pair;
 use paje_defs::{EventName, Fields, Role};
+use paje_lex::Unread;
 use paje_lines::{Effect, ModelFault};
 use trace_base::Memory;
 
@@ -112,7 +113,7 @@ impl Known {
     }
 
     /// A state event of a track.
-    pub fn state_event(&mut self, n: u32, fields: &Fields<'_>) -> Result<Effect, ModelFault>
+    pub fn state_event(&mut self, n: u32, fields: &Fields<'_>) -> Result<Effect, Unread<ModelFault>>
         requires known { IsOfLines self.old }
         requires event { is_state_event (line_of n fields.now).event ≡ true }
         ensures { (before : List EventLine) → IsKnown before self.old → Takes (record {

@@ -6,6 +6,7 @@ ghost use Rattle.paje_lines.specs.Reasons.{event_reason};
 
 use crate::known::Known;
 use paje_defs::{EventName, Fields};
+use paje_lex::Unread;
 use paje_lines::{Effect, ModelFault};
 
 impl Known {
@@ -13,7 +14,7 @@ impl Known {
     ghost use Rattle.paje_model.specs.Steps.{Takes};
 
     /// Takes the `n`th line of a text, which has these fields. After `Memory` it may only be dropped.
-    pub fn take(&mut self, n: u32, fields: &Fields<'_>) -> Result<Effect, ModelFault>
+    pub fn take(&mut self, n: u32, fields: &Fields<'_>) -> Result<Effect, Unread<ModelFault>>
         requires { IsOfLines self.old }
         ensures { (before : List EventLine) → IsKnown before self.old → Takes (record {
           before = before;

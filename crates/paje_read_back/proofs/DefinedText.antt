@@ -2,7 +2,7 @@
 use Rattle.std.proofs.Common.{◌≡◌, ℕ, List, [], ◌∷◌, ◌++◌, true, cond, filter_map, Some, None, is_some}
 use Rattle.std.proofs.Common.{refl, sym, ◌∙◌, ap}
 use Rattle.std.specs.List.{cons_option, find, list_all}
-use Rattle.std.specs.Option.{option_and_then}
+use Rattle.std.specs.Option.{option_map}
 use Rattle.std.proofs.lemmas.Bool.{and_parts, true≢false}
 use Rattle.std.proofs.lemmas.List.Elements.{filter_map-append}
 use Rattle.list_lemmas.proofs.Options.{none_first}
@@ -10,7 +10,7 @@ use Rattle.paje_defs.specs.Lines.{Line, begun_in, complete_in, definition_reason
 use Rattle.paje_defs.specs.Refusals.{Placed, first_refused, placed_behind}
 use Rattle.paje_reader.specs.LineReasons.{definition_line, definition_lines, event_line_at}
 use Rattle.paje_reader.specs.LineReasons.{event_line_behind, event_lines, line_why, why_behind}
-use Rattle.paje_reader.specs.LineReasons.{why_of_definition}
+use Rattle.paje_reader.specs.Why.{why_of_definition}
 use Rattle.paje_reader.specs.TextLines.{Reading, TextLine, defines, reading, refused, skipped, tells}
 use Rattle.paje_read_back.proofs.DefinedLines.{all-defining, definitions_text, is_defining, lines-defined}
 use Rattle.paje_read_back.proofs.DefinedLines.{unrefused-defined}
@@ -56,9 +56,9 @@ defining-unrefused before known (line ∷ lines) are all none =
     (cons_option (definition_line line.number o) (definition_lines lines)))) is) ∙ none) in
     ap (λ o. cond (is_some o) (Some at) later)
     (ap (why_behind before line.number) is
-    ∙ (ap (λ lines. option_and_then why_of_definition
+    ∙ (ap (λ lines. option_map why_of_definition
     (definition_reason (complete_in lines) (begun_in lines) words)) are
-    ∙ ap (option_and_then why_of_definition) parts.0))
+    ∙ ap (option_map why_of_definition) parts.0))
     ∙ defining-unrefused (before ++ line ∷ []) (known ++ first ∷ []) lines
     (filter_map-append (λ line. definition_line line.number (reading line)) before (line ∷ [])
     ∙ (ap (λ o. definition_lines before ++ cons_option (definition_line line.number o) []) is

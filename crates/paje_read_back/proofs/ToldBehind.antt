@@ -2,7 +2,7 @@
 use Rattle.std.proofs.Common.{◌≡◌, ℕ, ◌+◌, List, [], ◌∷◌, ◌++◌, cond, filter_map, Option, Some}
 use Rattle.std.proofs.Common.{None, Result, Ok, Err, is_some, refl, sym, ◌∙◌, ap, subst}
 use Rattle.std.specs.List.{AllByRecursion, AllZip, cons_option, find}
-use Rattle.std.specs.Option.{option_and_then, option_to_list}
+use Rattle.std.specs.Option.{option_map, option_to_list}
 use Rattle.std.proofs.lemmas.List.{append-nil, append_assoc}
 use Rattle.std.proofs.lemmas.List.Elements.{filter_map-append}
 use Rattle.std.proofs.lemmas.Option.{none-some, same_Some}
@@ -20,7 +20,8 @@ use Rattle.paje_reader.specs.declared.why.Why.{Why}
 use Rattle.paje_reader.specs.declared.why.Why.TheVariants as why
 use Rattle.paje_reader.specs.LineReasons.{definition_line, definition_lines, event_line, event_line_at}
 use Rattle.paje_reader.specs.LineReasons.{event_line_behind, told_behind, event_line_of, event_lines}
-use Rattle.paje_reader.specs.LineReasons.{line_why, told_why, why_behind, why_of_entity}
+use Rattle.paje_reader.specs.LineReasons.{line_why, told_why, why_behind}
+use Rattle.paje_reader.specs.Why.{why_of_entity}
 use Rattle.paje_reader.specs.TextLines.{TextLine, reading, tells, text_line}
 use Rattle.paje_print.specs.WrittenWords.{WrittenLine, line_text}
 use Rattle.paje_read_back.proofs.DefinedLines.{begun-defined, complete-defined, entries, lines_defined}
@@ -95,7 +96,7 @@ told_why-none : (before : List TextLine) (so_far : List EventLine) (n : ℕ) (wo
     (r : Result Event EventFault) (told : EventLine) → event_lines before ≡ so_far
     → event_line_of n words r ≡ Some told → event_reason so_far told ≡ None → told_why before n words r ≡ None
 told_why-none before so_far n words (Err fault) told so e none = absurd (none-some told e)
-told_why-none before so_far n words (Ok event) told so e none = ap (option_and_then why_of_entity)
+told_why-none before so_far n words (Ok event) told so e none = ap (option_map why_of_entity)
     (ap (λ lines. event_reason lines (event_line n words event)) so
     ∙ (ap (event_reason so_far) (same_Some (event_line n words event) told e) ∙ none))
 

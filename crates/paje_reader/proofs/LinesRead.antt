@@ -1,9 +1,9 @@
 -- What a reader has read, behind one more line.
-use Rattle.std.proofs.Common.{◌≡◌, ℕ, ◌⊎◌, inl, inr, List, [], ◌∷◌, ◌++◌, Option, Some, None}
+use Rattle.std.proofs.Common.{◌≡◌, ℕ, inl, inr, List, [], ◌∷◌, ◌++◌, Option, Some, None}
 use Rattle.std.proofs.Common.{Result}
 use Rattle.std.proofs.Common.{length, nat_lt, Ok, Err, is_some, cond, true, false, refl, sym}
 use Rattle.std.proofs.Common.{◌∙◌, ap, subst}
-use Rattle.std.specs.Option.{option_and_then, option_map_or, option_to_list}
+use Rattle.std.specs.Option.{option_and_then, option_map, option_map_or, option_to_list}
 use Rattle.std.specs.Result.{IsErrAnd}
 use Rattle.std.specs.Str.Lines.{strip_carriage_return}
 use Rattle.list_lemmas.proofs.Options.{cons_option-list}
@@ -16,10 +16,13 @@ use Rattle.paje_defs.specs.declared.def_fault.DefFault.{DefFault}
 use Rattle.paje_defs.specs.declared.event_fault.EventFault.{EventFault}
 use Rattle.paje_defs.specs.declared.fields.Fields.{Fields}
 use Rattle.paje_defs.specs.Events.{AreFields, Event, Tells, told_event}
-use Rattle.paje_defs.specs.Lines.{Definitions, begun_in, complete_in, definition_reason_at}
+use Rattle.paje_lex.specs.declared.unread.Unread.{Unread}
+use Rattle.paje_lex.specs.declared.unread.Unread.TheVariants as unreads
+use Rattle.paje_lex.specs.Unread.{IsRefusedFor}
+use Rattle.paje_defs.specs.Lines.{Definitions, begun_in, complete_in, definition_reason, definition_reason_at}
 use Rattle.paje_defs.specs.Lines.{definitions_of_lines}
 use Rattle.paje_defs.specs.Refusals.{Placed, first_of, refusal, when}
-use Rattle.paje_defs.specs.Table.{TakesNext, definitions_of, numbered_line}
+use Rattle.paje_defs.specs.Table.{StopsAt, TakesNext, definitions_of, numbered_line}
 use Rattle.paje_defs.proofs.PlacedMore.{told-more}
 use Rattle.paje_defs.proofs.RefusedMore.{none_refused, refusal-next}
 use Rattle.paje_defs.proofs.FirstOf.{first_one}
@@ -30,16 +33,16 @@ use Rattle.paje_lines.specs.Reasons.{event_reason}
 use Rattle.paje_model.specs.declared.entities.Entities.{Entities}
 use Rattle.paje_model.specs.StandsFor.{Applies, StandsFor}
 use Rattle.paje_reader.specs.declared.line_fault.LineFault.{LineFault}
-use Rattle.paje_reader.specs.declared.line_fault.LineFault.TheVariants.{Memory, Refused}
+use Rattle.paje_reader.specs.declared.line_fault.LineFault.TheVariants.{Refused}
 use Rattle.paje_reader.specs.declared.reader.Reader.{Reader}
 use Rattle.paje_reader.specs.declared.why.Why.{Why}
 use Rattle.paje_reader.specs.declared.why.Why.TheVariants as why
 use Rattle.paje_reader.specs.LineFaults.{fault_of}
-use Rattle.paje_reader.specs.LineReasons.{definition_line, definition_lines, definition_why, event_line}
+use Rattle.paje_reader.specs.LineReasons.{definition_line, definition_lines, event_line}
 use Rattle.paje_reader.specs.LineReasons.{event_line_at, event_line_behind, event_line_of, event_lines}
 use Rattle.paje_reader.specs.LineReasons.{line_why}
-use Rattle.paje_reader.specs.LineReasons.{told_behind, told_why, why_behind, why_of_definition, why_of_entity}
-use Rattle.paje_reader.specs.LineReasons.{why_of_event}
+use Rattle.paje_reader.specs.LineReasons.{told_behind, told_why, why_behind}
+use Rattle.paje_reader.specs.Why.{why_of_definition, why_of_entity, why_of_event}
 use Rattle.paje_reader.specs.Reader.{HasRead, TakesLine}
 use Rattle.paje_reader.specs.TextLines.{Reading, TextLine, defines, reading, reading_of_bytes}
 use Rattle.paje_reader.specs.TextLines.{reading_of_tokens, refused, skipped, tells}
@@ -72,20 +75,20 @@ why-by : (before : List TextLine) (line : TextLine) (r : Reading) → reading li
     → line_why (behind before line) ≡ why_behind before line.number r
 why-by before line r is = ap (why_behind before line.number) is
 
--- the fault of a line with this reason, or of one that memory ran out for
-pub told : (p : Placed TextLine) (reason : Option Why) → line_why p ≡ reason
-    → (fault_of reason ≡ Memory) ⊎ ((w : Why) × (fault_of reason ≡ Refused w) × (line_why p ≡ Some w))
-told p None is = inl refl
-told p (Some w) is = inr (w, refl, is)
+-- a call that is refused for the reason of the line
+pub from_why : {U : Type 0} (p : Placed TextLine) (new : Reader) (r : Result U LineFault) (w : Why)
+    → IsErrAnd r (λ e. e ≡ Refused w) → line_why p ≡ Some w → TakesLine p new r
+from_why p new (Ok u) w gives is = absurd gives
+from_why p new (Err e) w gives is = inr (w, gives, is)
 
--- a call that gives the fault of a reason
-pub from_fault : {U : Type 0} (p : Placed TextLine) (new : Reader) (r : Result U LineFault)
-    (reason : Option Why) → IsErrAnd r (λ e. e ≡ fault_of reason)
-    → (fault_of reason ≡ Memory) ⊎ ((w : Why) × (fault_of reason ≡ Refused w) × (line_why p ≡ Some w))
-    → TakesLine p new r
-from_fault p new (Ok u) reason gives told = absurd gives
-from_fault p new (Err e) reason gives told =
-    subst (λ e. (e ≡ Memory) ⊎ ((w : Why) × (e ≡ Refused w) × (line_why p ≡ Some w))) (sym gives) told
+-- a call that gives what a part of the line gave, whose reason is that of the line
+pub from_unread : {U F : Type 0} (p : Placed TextLine) (new : Reader) (r : Result U LineFault) (why : F → Why)
+    (unread : Unread F) (reason : Option F) → IsErrAnd r (λ e. e ≡ fault_of why unread)
+    → IsRefusedFor reason unread → line_why p ≡ option_map why reason → TakesLine p new r
+from_unread p new (Ok u) why unread reason gives told is = absurd gives
+from_unread p new (Err e) why (unreads.Refused fault) reason gives told is =
+    inr (why fault, gives, is ∙ ap (option_map why) told)
+from_unread p new (Err e) why unreads.Memory reason gives told is = inl gives
 
 -- ---- lines that are skipped
 
@@ -118,13 +121,18 @@ undefined : (before : List TextLine) (r : Reader) → HasRead before r
     → refusal definition_reason_at (definition_lines before) ≡ None
 undefined before r read = sym (ap (λ d. d.fault) read.definitions) ∙ read.undisturbed
 
-reason_told : (before : List TextLine) (r : Reader) (n : ℕ) (words : List (List ℕ)) (why : Option DefFault)
+-- the reason against the definition line, by those before it
+abbrev pub reason_behind : List TextLine → List (List ℕ) → Option DefFault
+reason_behind before words = definition_reason (complete_in (definition_lines before))
+    (begun_in (definition_lines before)) words
+
+reason_next : (before : List TextLine) (r : Reader) (n : ℕ) (words : List (List ℕ)) (why : Option DefFault)
     → HasRead before r
     → refusal definition_reason_at (definition_lines before ++ numbered_line n words ∷ []) ≡ why
-    → definition_why before words ≡ option_and_then why_of_definition why
-reason_told before r n words why read is = ap (option_and_then why_of_definition)
-    (sym (refusal-next definition_reason_at (definition_lines before) (numbered_line n words) _
-    (undefined before r read) refl) ∙ is)
+    → reason_behind before words ≡ why
+reason_next before r n words why read is =
+    sym (refusal-next definition_reason_at (definition_lines before) (numbered_line n words) _
+    (undefined before r read) refl) ∙ is
 
 -- it is taken
 pub defined : (U : Type 0) (before : List TextLine) (line : TextLine) (old new : Reader) (n : ℕ)
@@ -135,7 +143,8 @@ pub defined : (U : Type 0) (before : List TextLine) (line : TextLine) (old new :
     → (line_why (behind before line) ≡ None) × HasRead (before ++ line ∷ []) new
 defined U before line old new n words u read at is takes same =
     let none : line_why (behind before line) ≡ None = why-by before line (defines words) is
-    ∙ reason_told before old n words None read (sym (ap (λ d. d.fault) takes.0) ∙ takes.1) in (
+    ∙ ap (option_map why_of_definition)
+    (reason_next before old n words None read (sym (ap (λ d. d.fault) takes.0) ∙ takes.1)) in (
       none,
       record {
         definitions = takes.0 ∙ ap definitions_of_lines (sym (definitions-by before line (defines words) is
@@ -149,17 +158,22 @@ defined U before line old new n words u read at is takes same =
     )
 
 -- it is refused, or memory ran out
-pub undefined_line : (U : Type 0) (before : List TextLine) (line : TextLine) (old : Reader)
-    (new : Definitions)
-    (n : ℕ) (words : List (List ℕ)) (fault : DefFault) → HasRead before old → reading line ≡ defines words
-    → TakesNext {U = U} (definition_lines before) (numbered_line n words) new (Err fault)
-    → (fault_of (why_of_definition fault) ≡ Memory) ⊎ ((w : Why)
-    × (fault_of (why_of_definition fault) ≡ Refused w) × (line_why (behind before line) ≡ Some w))
-undefined_line U before line old new n words fault read is (inl out) =
-    inl (ap (λ f. fault_of (why_of_definition f)) out.0)
-undefined_line U before line old new n words fault read is (inr why) =
-    told (behind before line) (why_of_definition fault) (why-by before line (defines words) is
-    ∙ reason_told before old n words (Some fault) read (sym (ap (λ d. d.fault) why.0) ∙ why.1))
+undefined_for : (before : List TextLine) (old : Reader) (new : Definitions) (n : ℕ) (words : List (List ℕ))
+    (unread : Unread DefFault) → HasRead before old
+    → StopsAt (definition_lines before) (numbered_line n words) new unread
+    → IsRefusedFor (reason_behind before words) unread
+undefined_for before old new n words (unreads.Refused fault) read stops =
+    reason_next before old n words (Some fault) read (sym (ap (λ d. d.fault) stops.0) ∙ stops.1)
+undefined_for before old new n words unreads.Memory read stops = tt
+
+pub undefined_line : {U : Type 0} (before : List TextLine) (line : TextLine) (old : Reader)
+    (new : Definitions) (after : Reader) (r : Result U LineFault) (n : ℕ) (words : List (List ℕ)) (unread : Unread DefFault)
+    → HasRead before old → reading line ≡ defines words
+    → StopsAt (definition_lines before) (numbered_line n words) new unread
+    → IsErrAnd r (λ e. e ≡ fault_of why_of_definition unread) → TakesLine (behind before line) after r
+undefined_line before line old new after r n words unread read is stops gives =
+    from_unread (behind before line) after r why_of_definition unread (reason_behind before words) gives
+    (undefined_for before old new n words unread read stops) (why-by before line (defines words) is)
 
 -- ---- event lines
 
@@ -230,10 +244,10 @@ told_event_line : (before : List TextLine) (line : TextLine) (r : Reader) (words
     → told_event (definitions_of r.definitions).complete words ≡ Ok event → fields.time ≡ event.time
     → AreFields words event.definition fields
     → line_why (behind before line)
-    ≡ option_and_then why_of_entity (event_reason (event_lines before) (line_of n fields))
+    ≡ option_map why_of_entity (event_reason (event_lines before) (line_of n fields))
 told_event_line before line r words n fields event read at is closed told_so time are =
     outside before line r words (Ok event) read is closed told_so
-    ∙ ap (λ l. option_and_then why_of_entity (event_reason (event_lines before) l))
+    ∙ ap (λ l. option_map why_of_entity (event_reason (event_lines before) l))
     (ap (λ n. event_line n words event) at ∙ sym (fields_line n words event fields time are))
 
 -- it has its effect
@@ -249,7 +263,7 @@ taken_event U before line old new words n fields done entities read at is closed
     (reason, effect, stands) same =
     let none : line_why (behind before line) ≡ None =
     told_event_line before line old words n fields event read at is closed told_so time are
-    ∙ ap (option_and_then why_of_entity) reason in
+    ∙ ap (option_map why_of_entity) reason in
     let line_is : event_line line.number words event ≡ line_of n fields =
     ap (λ n. event_line n words event) at ∙ sym (fields_line n words event fields time are) in
     let told_here : told_behind before words ≡ Ok event =
@@ -268,18 +282,16 @@ taken_event U before line old new words n fields done entities read at is closed
     )
 
 -- it is refused, or memory ran out
-pub refused_event : (before : List TextLine) (line : TextLine) (r : Reader) (words : List (List ℕ)) (n : ℕ)
-    (fields : Fields) (fault : ModelFault) (new : Entities)
+pub refused_event : {U : Type 0} (before : List TextLine) (line : TextLine) (r : Reader) (after : Reader)
+    (result : Result U LineFault) (words : List (List ℕ)) (n : ℕ) (fields : Fields)
+    (unread : Unread ModelFault) (new : Entities)
     → HasRead before r → line.number ≡ n → reading line ≡ tells words
     → is_some (definitions_of r.definitions).begun ≡ false
     → Tells words (Ok fields) (told_event (definitions_of r.definitions).complete words)
-    → Applies (event_lines before) (line_of n fields) new (Err fault)
-    → (fault_of (why_of_entity fault) ≡ Memory) ⊎ ((w : Why)
-    × (fault_of (why_of_entity fault) ≡ Refused w) × (line_why (behind before line) ≡ Some w))
-refused_event before line r words n fields fault new read at is closed told_so (inl out) =
-    inl (ap (λ f. fault_of (why_of_entity f)) out)
-refused_event before line r words n fields fault new read at is closed (event, told_so, time, are)
-    (inr (reason, kept)) =
-    told (behind before line) (why_of_entity fault)
-    (told_event_line before line r words n fields event read at is closed told_so time are
-    ∙ ap (option_and_then why_of_entity) reason)
+    → Applies (event_lines before) (line_of n fields) new (Err unread)
+    → IsErrAnd result (λ e. e ≡ fault_of why_of_entity unread) → TakesLine (behind before line) after result
+refused_event before line r after result words n fields unread new read at is closed
+    (event, told_so, time, are) applies gives =
+    from_unread (behind before line) after result why_of_entity unread
+    (event_reason (event_lines before) (line_of n fields)) gives applies.0
+    (told_event_line before line r words n fields event read at is closed told_so time are)

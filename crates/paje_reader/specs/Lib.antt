@@ -1,4 +1,4 @@
-pub mod Words
+pub mod Why
 pub mod TextLines
 pub mod LineReasons
 pub mod TextSaid

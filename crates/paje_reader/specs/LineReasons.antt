@@ -1,56 +1,17 @@
 -- What a line of a trace text tells behind the lines before it, and why it is refused.
 use Rattle.std.specs.Prelude.{ℕ, List, [], ◌∷◌, filter_map, Option, Some, None, Result, Ok, Err}
 use Rattle.std.specs.Prelude.{is_some}
-use Rattle.std.specs.Option.{option_and_then}
-use Rattle.paje_lex.specs.declared.date_fault.DateFault.{DateFault}
-use Rattle.paje_lex.specs.declared.date_fault.DateFault.TheVariants as dates
-use Rattle.paje_defs.specs.declared.def_fault.DefFault.{DefFault}
-use Rattle.paje_defs.specs.declared.def_fault.DefFault.TheVariants as definitions
+use Rattle.std.specs.Option.{option_map}
 use Rattle.paje_defs.specs.declared.event_fault.EventFault.{EventFault}
-use Rattle.paje_defs.specs.declared.event_fault.EventFault.TheVariants as events
 use Rattle.paje_defs.specs.Events.{Event, message_size, role_text, size_in, told_event}
 use Rattle.paje_defs.specs.Lines.{Line, begun_in, complete_in, definition_reason}
 use Rattle.paje_defs.specs.Refusals.{Placed, first_of, placed, when}
-use Rattle.paje_lines.specs.declared.model_fault.ModelFault.{ModelFault}
-use Rattle.paje_lines.specs.declared.model_fault.ModelFault.TheVariants as entities
 use Rattle.paje_lines.specs.EventLine.{EventLine}
 use Rattle.paje_lines.specs.Reasons.{event_reason}
 use Rattle.paje_reader.specs.declared.why.Why.{Why}
 use Rattle.paje_reader.specs.declared.why.Why.TheVariants as why
+use Rattle.paje_reader.specs.Why.{why_of_definition, why_of_entity, why_of_event}
 use Rattle.paje_reader.specs.TextLines.{Reading, TextLine, defines, reading, refused, skipped, tells}
-
--- ---- the reasons by their names; none is want of memory
-
-abbrev pub why_of_definition : DefFault → Option Why
-why_of_definition definitions.Shape = Some why.Shape
-why_of_definition definitions.Nested = Some why.Nested
-why_of_definition definitions.UnknownName = Some why.UnknownName
-why_of_definition (definitions.DoubleNumber line) = Some (why.DoubleNumber line)
-why_of_definition definitions.UnknownType = Some why.UnknownType
-why_of_definition (definitions.MissingField role) = Some (why.MissingField role)
-why_of_definition definitions.Memory = None
-
-abbrev pub why_of_date : DateFault → Why
-why_of_date dates.Shape = why.DateShape
-why_of_date dates.Negative = why.DateNegative
-why_of_date dates.Big = why.DateBig
-
-abbrev pub why_of_event : EventFault → Why
-why_of_event events.NoNumber = why.NoNumber
-why_of_event events.UnknownNumber = why.UnknownNumber
-why_of_event events.TooFew = why.TooFew
-why_of_event (events.Date fault) = why_of_date fault
-
-abbrev pub why_of_entity : ModelFault → Option Why
-why_of_entity (entities.UnknownEntity role) = Some (why.UnknownEntity role)
-why_of_entity (entities.WrongKind role) = Some (why.WrongKind role)
-why_of_entity (entities.DoubleAlias line) = Some (why.DoubleAlias line)
-why_of_entity (entities.AfterDestroy line) = Some (why.AfterDestroy line)
-why_of_entity (entities.TimeBack time) = Some (why.TimeBack time)
-why_of_entity entities.EmptyPop = Some why.EmptyPop
-why_of_entity entities.Deep = Some why.Deep
-why_of_entity (entities.TooMany what) = Some (why.TooMany what)
-why_of_entity entities.Memory = None
 
 -- ---- the definition lines
 
@@ -99,12 +60,12 @@ event_lines lines = filter_map event_line_at (placed lines)
 -- ---- why a line is refused
 
 abbrev pub definition_why : List TextLine → List (List ℕ) → Option Why
-definition_why before words = option_and_then why_of_definition (definition_reason
+definition_why before words = option_map why_of_definition (definition_reason
     (complete_in (definition_lines before)) (begun_in (definition_lines before)) words)
 
 abbrev pub told_why : List TextLine → ℕ → List (List ℕ) → Result Event EventFault → Option Why
 told_why before number words (Err fault) = Some (why_of_event fault)
-told_why before number words (Ok event) = option_and_then why_of_entity
+told_why before number words (Ok event) = option_map why_of_entity
     (event_reason (event_lines before) (event_line number words event))
 
 -- No event line stands inside a definition.

@@ -5,13 +5,13 @@ use Rattle.std.specs.List.{enumerate_from, slice_split}
 use Rattle.std.specs.Str.Lines.{strip_carriage_return}
 use Rattle.trace_base.specs.declared.limits.TheConstants.{MAX_TRACE_LINE}
 use Rattle.paje_lex.specs.declared.lex_fault.LexFault.{LexFault}
-use Rattle.paje_lex.specs.declared.lex_fault.LexFault.TheVariants as faults
 use Rattle.paje_lex.specs.declared.token.Token.{Token}
 use Rattle.paje_lex.specs.LineKinds.{is_definition_line, is_skipped_line}
 use Rattle.paje_lex.specs.LineReading.{lexed}
 use Rattle.paje_defs.specs.Words.{words_at_tokens}
 use Rattle.paje_reader.specs.declared.why.Why.{Why}
 use Rattle.paje_reader.specs.declared.why.Why.TheVariants as why
+use Rattle.paje_reader.specs.Why.{why_of_lexing}
 
 -- its number, counted from 1, and its bytes without the newline
 pub record TextLine : Type 0 where
@@ -46,13 +46,11 @@ pub data Reading : Type 0 where
   defines : List (List ℕ) → Reading
   tells : List (List ℕ) → Reading
 
--- a line of these bytes, which have these tokens; nothing wrong with a line is want of memory
+-- a line of these bytes, which have these tokens
 abbrev pub reading_of_tokens : List ℕ → Result (List Token) LexFault → Reading
 reading_of_tokens bytes (Ok tokens) = if is_definition_line bytes then defines (words_at_tokens bytes tokens)
     else tells (words_at_tokens bytes tokens)
-reading_of_tokens bytes (Err (faults.NotText at)) = refused (why.NotText at)
-reading_of_tokens bytes (Err (faults.OpenQuote at)) = refused (why.OpenQuote at)
-reading_of_tokens bytes (Err faults.Memory) = skipped
+reading_of_tokens bytes (Err fault) = refused (why_of_lexing fault)
 
 -- without the carriage return at its end
 abbrev pub reading_of_bytes : List ℕ → Reading

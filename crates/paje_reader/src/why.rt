@@ -1,8 +1,10 @@
 ghost use Rattle.std.specs.Prelude.{◌≡◌};
-ghost use Rattle.paje_reader.specs.Words.{word_of};
+ghost use Rattle.paje_reader.specs.Why.{why_of_date, why_of_definition, why_of_entity, why_of_event};
+ghost use Rattle.paje_reader.specs.Why.{why_of_lexing, word_of};
 
-use paje_defs::Role;
-use paje_lines::What;
+use paje_defs::{DefFault, EventFault, Role};
+use paje_lex::{DateFault, LexFault};
+use paje_lines::{ModelFault, What};
 use thiserror::Error;
 
 /// Why a line of a trace is refused, or an open definition at the end.
@@ -112,6 +114,74 @@ impl Why {
             Why::EmptyPop => "EmptyPop",
             Why::Deep => "Deep",
             Why::TooMany(_) => "TooMany",
+        }
+    }
+}
+
+impl From<LexFault> for Why {
+    ghost from_gives = { λ fault why. why ≡ why_of_lexing fault };
+
+    fn from(fault: LexFault) -> Why {
+        match fault {
+            LexFault::NotText(at) => Why::NotText(at),
+            LexFault::OpenQuote(at) => Why::OpenQuote(at),
+        }
+    }
+}
+
+impl From<DefFault> for Why {
+    ghost from_gives = { λ fault why. why ≡ why_of_definition fault };
+
+    fn from(fault: DefFault) -> Why {
+        match fault {
+            DefFault::Shape => Why::Shape,
+            DefFault::Nested => Why::Nested,
+            DefFault::UnknownName => Why::UnknownName,
+            DefFault::DoubleNumber(line) => Why::DoubleNumber(line),
+            DefFault::UnknownType => Why::UnknownType,
+            DefFault::MissingField(role) => Why::MissingField(role),
+        }
+    }
+}
+
+impl From<DateFault> for Why {
+    ghost from_gives = { λ fault why. why ≡ why_of_date fault };
+
+    fn from(fault: DateFault) -> Why {
+        match fault {
+            DateFault::Shape => Why::DateShape,
+            DateFault::Negative => Why::DateNegative,
+            DateFault::Big => Why::DateBig,
+        }
+    }
+}
+
+impl From<EventFault> for Why {
+    ghost from_gives = { λ fault why. why ≡ why_of_event fault };
+
+    fn from(fault: EventFault) -> Why {
+        match fault {
+            EventFault::NoNumber => Why::NoNumber,
+            EventFault::UnknownNumber => Why::UnknownNumber,
+            EventFault::TooFew => Why::TooFew,
+            EventFault::Date(fault) => Why::from(fault),
+        }
+    }
+}
+
+impl From<ModelFault> for Why {
+    ghost from_gives = { λ fault why. why ≡ why_of_entity fault };
+
+    fn from(fault: ModelFault) -> Why {
+        match fault {
+            ModelFault::UnknownEntity(role) => Why::UnknownEntity(role),
+            ModelFault::WrongKind(role) => Why::WrongKind(role),
+            ModelFault::DoubleAlias(line) => Why::DoubleAlias(line),
+            ModelFault::AfterDestroy(line) => Why::AfterDestroy(line),
+            ModelFault::TimeBack(time) => Why::TimeBack(time),
+            ModelFault::EmptyPop => Why::EmptyPop,
+            ModelFault::Deep => Why::Deep,
+            ModelFault::TooMany(what) => Why::TooMany(what),
         }
     }
 }

@@ -1,4 +1,4 @@
-use Rattle.paje_lex.specs.LineGrammar.{UnlessMemory}
+use Rattle.paje_lex.specs.Unread.{UnlessMemory}
 use Rattle.paje_lex.specs.LineReading.{lexed}
 use Rattle.paje_lex.proofs.LineLemmas.{told_of}
 use Rattle.paje_lex.proofs.LineLaws.{lexed_found, lexed_only, told_found}

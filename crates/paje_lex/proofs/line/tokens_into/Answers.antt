@@ -1,7 +1,8 @@
 use Rattle.std.proofs.Common.{drop, ◌∙◌, sym, ap, Err}
 use Rattle.paje_lex.specs.declared.state.State.TheVariants.{Between}
 use Rattle.paje_lex.specs.LineReading.{lexed, scan}
-use Rattle.paje_lex.specs.LineGrammar.{filled, UnlessMemory}
+use Rattle.paje_lex.specs.LineGrammar.{filled}
+use Rattle.paje_lex.specs.Unread.{UnlessMemory}
 use Rattle.paje_lex.proofs.LineLemmas.{lexed_not_text, told_of}
 use Rattle.paje_lex.proofs.LineLaws.{lexed_found, lexed_only, told_found}
 use Rattle.paje_lex.proofs.LinePlaces.{told_within}
