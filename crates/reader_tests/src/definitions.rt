@@ -3,7 +3,7 @@
 ghost use Rattle.std.specs.Prelude.{length};
 ghost use Rattle.paje_lex.specs.LineGrammar.{StandIn};
 
-use crate::rows::add_rows;
+use crate::rows::{add_rows, reason};
 use crate::written::text_of;
 use paje_defs::{DefTable, Fields, Role};
 use paje_lex::{Token, is_definition, tokens};
@@ -152,8 +152,8 @@ fn add_definition(
 ) -> Result<(), Fail>
     requires { StandIn (length line.now) tokens.now }
 {
-    if let Err(fault) = table.line(1, line, tokens) {
-        write!(out, " {fault:?}")?;
+    if let Err(unread) = table.line(1, line, tokens) {
+        write!(out, " {:?}", reason(unread)?)?;
     }
     if table.is_inside() {
         out.push_str(" inside")?;

@@ -13,22 +13,17 @@ fn add_texts<T: Display>(out: &mut String, faults: &[T]) -> Result<(), Fail> {
     Ok(())
 }
 
-const LEX_FAULTS: [LexFault; 3] = [
-    LexFault::NotText(7),
-    LexFault::OpenQuote(12),
-    LexFault::Memory,
-];
+const LEX_FAULTS: [LexFault; 2] = [LexFault::NotText(7), LexFault::OpenQuote(12)];
 
 const DATE_FAULTS: [DateFault; 3] = [DateFault::Shape, DateFault::Negative, DateFault::Big];
 
-const DEFINITION_FAULTS: [DefFault; 7] = [
+const DEFINITION_FAULTS: [DefFault; 6] = [
     DefFault::Shape,
     DefFault::Nested,
     DefFault::UnknownName,
     DefFault::DoubleNumber(12),
     DefFault::UnknownType,
     DefFault::MissingField(Role::Holder),
-    DefFault::Memory,
 ];
 
 const EVENT_FAULTS: [EventFault; 4] = [
@@ -38,7 +33,7 @@ const EVENT_FAULTS: [EventFault; 4] = [
     EventFault::Date(DateFault::Negative),
 ];
 
-const MODEL_FAULTS: [ModelFault; 9] = [
+const MODEL_FAULTS: [ModelFault; 8] = [
     ModelFault::UnknownEntity(Role::Holder),
     ModelFault::WrongKind(Role::Kind),
     ModelFault::DoubleAlias(36),
@@ -47,7 +42,6 @@ const MODEL_FAULTS: [ModelFault; 9] = [
     ModelFault::EmptyPop,
     ModelFault::Deep,
     ModelFault::TooMany(What::LinkEvents),
-    ModelFault::Memory,
 ];
 
 const READ_FAULTS: [ReadFault; 3] = [
@@ -65,7 +59,6 @@ const READ_FAULTS: [ReadFault; 3] = [
 const TEXTS: &str = "\
 no UTF-8 from byte 7 on
 the quote at byte 12 isn't closed
-out of memory
 not a date
 a date below 0
 a date above 2^62 nanoseconds
@@ -75,7 +68,6 @@ an unknown event name
 the number was defined on line 12
 an unknown type
 no field of the role Holder
-out of memory
 no event number
 an unknown event number
 too few fields
@@ -88,7 +80,6 @@ a time below 30
 no open call
 too many open calls
 too many LinkEvents
-out of memory
 line 37: no open call
 line 38: the alias was taken on line 36
 out of memory

@@ -1,5 +1,5 @@
 //! Tokens, dates and kinds of lines.
-use crate::rows::add_rows;
+use crate::rows::{add_rows, reason};
 use paje_lex::{Token, date, is_definition, is_skipped, tokens, tokens_into};
 use std::alloc::Global;
 use std::test::Fail;
@@ -28,7 +28,7 @@ fn add_tokens(out: &mut String, list: &mut Seq<Token>, line: &[u8]) -> Result<()
                 write!(out, " {}-{}", token.from, token.to)?;
             }
         }
-        Err(fault) => write!(out, " {fault:?}")?,
+        Err(unread) => write!(out, " {:?}", reason(unread)?)?,
     }
     Ok(())
 }
@@ -62,7 +62,7 @@ fn add_last(out: &mut String, alloc: Global, line: &[u8]) -> Result<(), Fail> {
     }
     match tokens(alloc, line) {
         Ok(list) => writeln!(out, "{} {:?}", list.len(), list.as_slice().last())?,
-        Err(fault) => writeln!(out, "{fault:?}")?,
+        Err(unread) => writeln!(out, "{:?}", reason(unread)?)?,
     }
     Ok(())
 }

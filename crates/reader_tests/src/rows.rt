@@ -1,4 +1,5 @@
 //! Tables of tests: a row is a question and, behind ` =>`, its answer.
+use paje_lex::Unread;
 use std::test::Fail;
 
 /// Adds the rows of a table, each with the answer that is found to its question.
@@ -18,4 +19,12 @@ pub fn add_rows<F: FnMut(&mut String, &str) -> Result<(), Fail>>(
         }
     }
     Ok(())
+}
+
+/// The reason of a refusal. Want of memory fails the test.
+pub fn reason<F: Drop>(unread: Unread<F>) -> Result<F, Fail> {
+    match unread {
+        Unread::Refused(reason) => Ok(reason),
+        Unread::Memory => Err(Fail::from("no memory")),
+    }
 }

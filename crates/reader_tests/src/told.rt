@@ -4,6 +4,7 @@ ghost use Rattle.paje_lines.specs.EventLine.{EventLine};
 ghost use Rattle.paje_model.specs.StandsFor.{IsOpen, StandsFor};
 
 use crate::definitions::add_line;
+use crate::rows::reason;
 use paje_defs::DefTable;
 use paje_lex::tokens;
 use paje_lines::{Effect, ModelFault};
@@ -71,12 +72,7 @@ pub fn answer(
     let fields = definitions.event(line, read.as_slice())?;
     match entities.apply(n, &fields) {
         Ok(effect) => Ok(Ok(effect)),
-        Err(fault) => {
-            if fault == ModelFault::Memory {
-                return Err(Fail::from(fault));
-            }
-            Ok(Err(fault))
-        }
+        Err(unread) => Ok(Err(reason(unread)?)),
     }
 }
 
