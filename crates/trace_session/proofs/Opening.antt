@@ -23,7 +23,7 @@ use Rattle.session_proto.specs.declared.reply.Reply.{Reply}
 use Rattle.session_proto.specs.declared.reply.Reply.TheVariants as reply
 use Rattle.paje_lines.specs.Text.{info_of_text}
 use Rattle.paje_reader.specs.TextSaid.{Says, Reads, text_refusal}
-use Rattle.paje_reader.specs.Words.{word_of}
+use Rattle.paje_reader.specs.Why.{word_of}
 use Rattle.paje_reader.specs.declared.read_fault.ReadFault.{ReadFault}
 use Rattle.paje_reader.specs.declared.read_fault.ReadFault.TheVariants.{Refused}
 use Rattle.paje_reader.specs.declared.read_fault.ReadRefusal.{ReadRefusal}

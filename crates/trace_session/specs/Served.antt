@@ -18,7 +18,7 @@ use Rattle.session_proto.specs.declared.request.Request.TheVariants.{Flat, Quit}
 use Rattle.session_proto.specs.declared.request.Sel.TheVariants.{All}
 use Rattle.paje_lines.specs.Text.{info_of_text}
 use Rattle.paje_reader.specs.TextSaid.{Says, text_refusal}
-use Rattle.paje_reader.specs.Words.{word_of}
+use Rattle.paje_reader.specs.Why.{word_of}
 use Rattle.paje_reader.specs.declared.read_fault.ReadRefusal.{ReadRefusal}
 use Rattle.request_reader.specs.Requests.{WholeRequest, Line, Load, Large, Unreadable}
 use Rattle.trace_session.specs.Replies.{entry_at, opened_reply, flat_reply}
