@@ -13,6 +13,7 @@ pub mod GeneratedSizes
 pub mod GeneratedStreams
 pub mod GeneratedText
 pub mod GeneratedTimes
+pub mod GreatTraces
 pub mod KernelPlaces
 pub mod NineDigits
 pub mod SmallCanonical

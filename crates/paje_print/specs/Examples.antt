@@ -1,11 +1,13 @@
 -- Small traces: one that has a canonical text, and others that differ from it in one thing. Times are
 -- nanoseconds.
-use Rattle.std.specs.Prelude.{ℕ, List, [], ◌∷◌, codes, replicate, false, true}
-use Rattle.trace_base.specs.LegalExamples.{lasting, one_call, track_of_kind}
+use Rattle.std.specs.Prelude.{ℕ, List, [], ◌∷◌, codes, decimal, map, replicate, false, true}
+use Rattle.std.specs.List.{flat_map, range_with_len}
+use Rattle.trace_base.specs.LegalExamples.{calls_in_a_row, lasting, nested_calls, one_call, track_of_kind}
 use Rattle.trace_base.specs.declared.messages.LinkEvent.{LinkEvent}
 use Rattle.trace_base.specs.declared.names.Container.{Container}
 use Rattle.trace_base.specs.declared.names.Track.{Track}
 use Rattle.trace_base.specs.declared.names.TraceNames.{TraceNames}
+use Rattle.trace_base.specs.declared.stream.Event.{Event}
 use Rattle.trace_base.specs.declared.stream.Event.TheVariants.{Enter, Leave}
 use Rattle.trace_base.specs.declared.stream.TrackStream.{TrackStream}
 use Rattle.trace_base.specs.declared.text.TraceText.{TraceText}
@@ -78,6 +80,10 @@ calling text = small_named (record small_names { functions = text ∷ [] })
 unfoldable pub long_text : ℕ → List ℕ
 long_text n = replicate n 97
 
+-- so many texts of so many bytes
+unfoldable pub long_texts : ℕ → ℕ → List (List ℕ)
+long_texts n size = replicate n (long_text size)
+
 -- with this root, or with one container more
 abbrev pub rooted_in : Container → TraceText
 rooted_in root = small_named (record small_names { containers = root ∷ lasting 2 10 ∷ [] })
@@ -129,6 +135,28 @@ quiet_process = record { start = 2; end = 10; events = [] }
 abbrev pub running : TrackStream → TraceText
 running stream = record small_trace { tracks = stream ∷ [] }
 
+abbrev pub running_events : List Event → TraceText
+running_events events = running (record { start = 2; end = 10; events = events })
+
+-- with so many calls, each in the one before it
+abbrev pub nesting : ℕ → TraceText
+nesting n = running_events (nested_calls n).events
+
+-- with so many calls, one behind the other
+abbrev pub calling_often : ℕ → TraceText
+calling_often n = running_events (calls_in_a_row n)
+
+-- with so many containers more, each with a track on which nothing happens
+abbrev pub quiet_in_each : ℕ → TraceText
+quiet_in_each n = record {
+  names = record small_names {
+    containers = root_until 10 ∷ lasting 2 10 ∷ replicate n (lasting 2 10);
+    tracks = track_of_kind 1 0 ∷ map (λ k. track_of_kind k 0) (range_with_len 2 n);
+  };
+  tracks = one_call 1 3 7 ∷ replicate n quiet_process;
+  links = [];
+}
+
 -- with these functions, of which the process calls two, one behind the other
 abbrev pub two_in_a_row : ℕ → ℕ → TrackStream
 two_in_a_row f g = record {
@@ -144,7 +172,26 @@ calling_two functions f g = record {
   links = [];
 }
 
+-- with so many functions, each named by its number and called once
+abbrev pub calling_each : ℕ → TraceText
+calling_each n = record {
+  names = record small_names { functions = map decimal (range_with_len 1 n) };
+  tracks = record {
+    start = 2;
+    end = 10;
+    events = flat_map (λ f. Enter f 3 ∷ Leave 3 ∷ []) (range_with_len 1 n);
+  } ∷ [];
+  links = [];
+}
+
 -- ---- with other link events
 
 abbrev pub linking : LinkEvent → TraceText
 linking l = record small_trace { links = l ∷ [] }
+
+-- so many starts of messages
+unfoldable pub starts : ℕ → List LinkEvent
+starts n = replicate n (sent 1 100)
+
+abbrev pub linking_often : ℕ → TraceText
+linking_often n = record small_trace { links = starts n }

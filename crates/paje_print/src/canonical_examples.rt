@@ -1,14 +1,19 @@
 //! Traces that have a canonical text, and others that break one rule each. The statements are the clauses;
 //! the bodies are empty.
-ghost use Rattle.std.specs.Prelude.{◌+◌, ◌-◌, ◌^◌, ◌∷◌, [], codes, replicate};
+ghost use Rattle.std.specs.Prelude.{◌+◌, ◌-◌, ◌/◌, ◌^◌, ◌∷◌, [], codes, replicate};
 ghost use Rattle.trace_base.specs.LegalExamples.{lasting, one_call, quiet_until, track_of_kind};
 ghost use Rattle.paje_print.specs.Canonical.{IsCanonical, root_until};
 ghost use Rattle.paje_print.specs.Examples.{beside_container, beside_containers, beside_track, calling};
-ghost use Rattle.paje_print.specs.Examples.{beside_lasting, calling_two, ending_at, linking, long_text};
+ghost use Rattle.paje_print.specs.Examples.{beside_lasting, calling_each, calling_often, calling_two};
+ghost use Rattle.paje_print.specs.Examples.{ending_at, linking, linking_often, long_text, long_texts, nesting};
 ghost use Rattle.paje_print.specs.Examples.{nothing_traced, of_link_type, of_state_type, of_state_types};
-ghost use Rattle.paje_print.specs.Examples.{quiet_process, received, rooted_in, running, sent, small_trace};
+ghost use Rattle.paje_print.specs.Examples.{quiet_in_each, quiet_process, received, rooted_in, running, sent};
+ghost use Rattle.paje_print.specs.Examples.{small_trace};
 
-use trace_base::{MAX_CONTAINERS, MAX_TIME, MAX_TRACE_LINE, MAX_TYPES};
+use trace_base::{
+    MAX_CONTAINERS, MAX_FUNCTIONS, MAX_LINK_EVENTS, MAX_OPEN_CALLS, MAX_STATE_EVENTS, MAX_TIME,
+    MAX_TRACE_LINE, MAX_TRACKS, MAX_TYPES,
+};
 
 /// They have a canonical text, some of them at a limit.
 pub fn canonical_traces()
@@ -17,6 +22,11 @@ pub fn canonical_traces()
     ensures two_functions { IsCanonical (calling_two (codes "main" ∷ codes "f" ∷ []) 1 2) }
     ensures great_size { IsCanonical (linking (sent 1 (2 ^ 63 - 1))) }
     ensures last_time { IsCanonical (beside_lasting MAX_TIME) }
+    // There are a type of links and one of containers beside these.
+    ensures most_types { IsCanonical (of_state_types (replicate (MAX_TYPES - 2) (codes "State"))) }
+    // The line has 13 bytes beside these.
+    ensures longest_line { IsCanonical (of_link_type (long_text (MAX_TRACE_LINE - 13))) }
+    ensures deepest { IsCanonical (nesting MAX_OPEN_CALLS) }
 {}
 
 /// A text that can't stand in quotes on a line.
@@ -67,13 +77,23 @@ pub fn broken_links()
     ensures great_size { ¬ IsCanonical (linking (sent 1 (2 ^ 63))) }
 {}
 
-/// One more than a limit.
+/// More than a limit, and within the others. So many calls or link events make a text too long as well: no
+/// trace breaks these two limits alone.
 pub fn great_traces()
     ensures time { ¬ IsCanonical (beside_lasting (MAX_TIME + 1)) }
     // There are the root and another container beside these.
     ensures containers { ¬ IsCanonical (beside_containers (MAX_CONTAINERS - 1)) }
     // There are a type of links and one of containers beside these.
     ensures types { ¬ IsCanonical (of_state_types (replicate (MAX_TYPES - 1) (codes "State"))) }
-    // The line has more than the name of its type.
-    ensures line { ¬ IsCanonical (of_link_type (long_text MAX_TRACE_LINE)) }
+    // There is a track beside these.
+    ensures tracks { ¬ IsCanonical (quiet_in_each MAX_TRACKS) }
+    ensures functions { ¬ IsCanonical (calling_each (MAX_FUNCTIONS + 1)) }
+    // Each call has two events, and the track one.
+    ensures states { ¬ IsCanonical (calling_often (MAX_STATE_EVENTS / 2)) }
+    ensures links { ¬ IsCanonical (linking_often (MAX_LINK_EVENTS + 1)) }
+    // The line has 13 bytes beside these.
+    ensures line { ¬ IsCanonical (of_link_type (long_text (MAX_TRACE_LINE - 12))) }
+    // 1,033 types of 65,000 bytes each are more than the 67,108,864 of a text.
+    ensures text { ¬ IsCanonical (of_state_types (long_texts 1033 65000)) }
+    ensures depth { ¬ IsCanonical (nesting (MAX_OPEN_CALLS + 1)) }
 {}
