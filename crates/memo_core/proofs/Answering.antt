@@ -9,10 +9,10 @@ use Rattle.memo_core.proofs.CachedItems.{key_test, key_tells, entry_cached, prom
 use Rattle.memo_core.proofs.CachedPut.{put_items}
 use Rattle.memo_core.proofs.MemoSteps.{is_kept, nothing_goes, still_memo}
 use Rattle.memo_core.specs.Cached.{memo_items}
-use Rattle.memo_core.specs.Entry.{entry_kind, entry_rows}
+use Rattle.whole_profiles.specs.Entry.{entry_kind, entry_rows}
 use Rattle.memo_core.specs.Memo.{IsMemo, entry_under, with_recent, most_recent}
 use Rattle.memo_core.specs.Using.{LooksUp, FillsIn}
-use Rattle.memo_core.specs.declared.entry.Entry.{Entry}
+use Rattle.whole_profiles.specs.declared.entry.Entry.{Entry}
 use Rattle.memo_core.specs.declared.limits.TheConstants.{MEMO_ENTRIES, MEMO_ROWS}
 use Rattle.memo_core.specs.declared.memo_key.MemoKey.{MemoKey}
 

@@ -15,11 +15,11 @@ use Rattle.memo_core.proofs.Lists.{filter-reverse, find-reverse, none_passes, re
 use Rattle.memo_core.specs.Cached.{memo_item, memo_items}
 use Rattle.memo_core.specs.Memo.{MemoItem, IsMemo, same_kind, is_item_of, entry_under, items_besides}
 use Rattle.memo_core.specs.Memo.{with_recent}
-use Rattle.memo_core.specs.contracts.memo_kind.MemoKind.{the_type}
-use Rattle.memo_core.specs.declared.entry.Entry.{Entry}
+use Rattle.whole_profiles.specs.contracts.memo_kind.MemoKind.{the_type}
+use Rattle.whole_profiles.specs.declared.entry.Entry.{Entry}
 use Rattle.memo_core.specs.declared.memo_key.MemoKey.{MemoKey}
-use Rattle.memo_core.specs.declared.memo_kind.MemoKind.{MemoKind}
-use Rattle.memo_core.specs.declared.memo_kind.MemoKind.TheVariants.{Flat, Paths}
+use Rattle.whole_profiles.specs.declared.memo_kind.MemoKind.{MemoKind}
+use Rattle.whole_profiles.specs.declared.memo_kind.MemoKind.TheVariants.{Flat, Paths}
 
 pub same_kind-true : (a b : MemoKind) → same_kind a b ≡ true → a ≡ b
 same_kind-true Flat Flat h = refl

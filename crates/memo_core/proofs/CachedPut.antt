@@ -16,10 +16,10 @@ use Rattle.memo_core.proofs.MemoSteps.{nothing_goes}
 use Rattle.memo_core.specs.Cached.{memo_item, memo_items}
 use Rattle.memo_core.specs.Memo.{MemoItem, IsMemo, is_item_of, entry_under}
 use Rattle.memo_core.specs.Memo.{with_recent, most_recent}
-use Rattle.memo_core.specs.declared.entry.Entry.{Entry}
+use Rattle.whole_profiles.specs.declared.entry.Entry.{Entry}
 use Rattle.memo_core.specs.declared.limits.TheConstants.{MEMO_ENTRIES}
 use Rattle.memo_core.specs.declared.memo_key.MemoKey.{MemoKey}
-use Rattle.memo_core.specs.declared.memo_kind.MemoKind.{MemoKind}
+use Rattle.whole_profiles.specs.declared.memo_kind.MemoKind.{MemoKind}
 
 no_item : (o : Option MemoItem) → option_map (λ i. i.entry) o ≡ None → o ≡ None
 no_item None h = refl

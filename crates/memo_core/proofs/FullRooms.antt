@@ -10,9 +10,9 @@ use Rattle.memo_core.proofs.Lists.{none_found}
 use Rattle.memo_core.proofs.MemoLaws.{find-not_last, least_recent_goes}
 use Rattle.memo_core.specs.Examples.{idle_flat, item_of, numbers_from}
 use Rattle.memo_core.specs.Memo.{MemoItem, is_item_of, entry_under, with_recent, most_recent}
-use Rattle.memo_core.specs.declared.entry.Entry.{Entry}
+use Rattle.whole_profiles.specs.declared.entry.Entry.{Entry}
 use Rattle.memo_core.specs.declared.limits.TheConstants.{MEMO_ENTRIES}
-use Rattle.memo_core.specs.declared.memo_kind.MemoKind.TheVariants.{Flat}
+use Rattle.whole_profiles.specs.declared.memo_kind.MemoKind.TheVariants.{Flat}
 
 numbers_count : (n k : ℕ) → length (numbers_from n k) ≡ k
 unfolding numbers_from

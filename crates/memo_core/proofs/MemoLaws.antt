@@ -16,10 +16,10 @@ use Rattle.memo_core.proofs.Lists.{find_is_first, filter-drop_le, find-drop, non
 use Rattle.memo_core.proofs.MemoSteps.{nothing_goes, still_once}
 use Rattle.memo_core.specs.Memo.{MemoItem, IsMemo, same_kind, is_item_of, entry_under, items_besides}
 use Rattle.memo_core.specs.Memo.{with_recent, most_recent}
-use Rattle.memo_core.specs.declared.entry.Entry.{Entry}
+use Rattle.whole_profiles.specs.declared.entry.Entry.{Entry}
 use Rattle.memo_core.specs.declared.limits.TheConstants.{MEMO_ENTRIES}
-use Rattle.memo_core.specs.declared.memo_kind.MemoKind.{MemoKind}
-use Rattle.memo_core.specs.declared.memo_kind.MemoKind.TheVariants.{Flat, Paths}
+use Rattle.whole_profiles.specs.declared.memo_kind.MemoKind.{MemoKind}
+use Rattle.whole_profiles.specs.declared.memo_kind.MemoKind.TheVariants.{Flat, Paths}
 
 module _ {X : Type 0} (q : X → Bool) where
   -- the last of a list is found where no other one passes

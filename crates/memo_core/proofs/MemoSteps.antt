@@ -10,12 +10,12 @@ use Rattle.std.proofs.lemmas.List.Elements.{All-append, All-filter, All-drop, fi
 use Rattle.list_lemmas.proofs.All.{All-one}
 use Rattle.memo_core.proofs.Lists.{filter-filter_le, filter-drop_le, none_left, find_has, found_counts}
 use Rattle.memo_core.proofs.CachedItems.{item_under}
-use Rattle.memo_core.specs.Entry.{entry_kind, entry_rows}
+use Rattle.whole_profiles.specs.Entry.{entry_kind, entry_rows}
 use Rattle.memo_core.specs.Memo.{MemoItem, IsMemo, is_item_of, entry_under, items_besides}
 use Rattle.memo_core.specs.Memo.{with_recent, most_recent}
-use Rattle.memo_core.specs.declared.entry.Entry.{Entry}
+use Rattle.whole_profiles.specs.declared.entry.Entry.{Entry}
 use Rattle.memo_core.specs.declared.limits.TheConstants.{MEMO_ENTRIES, MEMO_ROWS}
-use Rattle.memo_core.specs.declared.memo_kind.MemoKind.{MemoKind}
+use Rattle.whole_profiles.specs.declared.memo_kind.MemoKind.{MemoKind}
 
 -- an item that stands under two numbers and kinds: they are the same
 pub same_place : (n m : ℕ) (kind other : MemoKind) (e : Entry)

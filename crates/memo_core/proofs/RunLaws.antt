@@ -8,13 +8,13 @@ use Rattle.std.proofs.lemmas.Bool.{cases_Bool, le-leb, leb-true}
 use Rattle.std.proofs.lemmas.List.Elements.{All-nil}
 use Rattle.memo_core.proofs.MemoLaws.{filled_is_found, others_stay, others_stay_or_go}
 use Rattle.memo_core.proofs.MemoSteps.{is_kept, nothing_goes, same_place, still_memo}
-use Rattle.memo_core.specs.Entry.{entry_kind, entry_rows}
+use Rattle.whole_profiles.specs.Entry.{entry_kind, entry_rows}
 use Rattle.memo_core.specs.Memo.{MemoItem, IsMemo, is_item_of, entry_under, with_recent}
 use Rattle.memo_core.specs.Runs.{MemoUse, Looked, Filled, MemoStep, MemoRun, entry_filled, last_filled}
 use Rattle.memo_core.specs.Using.{FillsIn}
-use Rattle.memo_core.specs.declared.entry.Entry.{Entry}
+use Rattle.whole_profiles.specs.declared.entry.Entry.{Entry}
 use Rattle.memo_core.specs.declared.limits.TheConstants.{MEMO_ROWS}
-use Rattle.memo_core.specs.declared.memo_kind.MemoKind.{MemoKind}
+use Rattle.whole_profiles.specs.declared.memo_kind.MemoKind.{MemoKind}
 
 empty_memo : IsMemo []
 empty_memo = record {

@@ -1,7 +1,7 @@
 -- The items of a room as its cache has them: the most recently used first.
 use Rattle.std.specs.Prelude.{List, map, reverse}
 use Rattle.memo_core.specs.Memo.{MemoItem}
-use Rattle.memo_core.specs.declared.entry.Entry.{Entry}
+use Rattle.whole_profiles.specs.declared.entry.Entry.{Entry}
 use Rattle.memo_core.specs.declared.memo_key.MemoKey.{MemoKey}
 
 abbrev pub memo_item : MemoKey × Entry → MemoItem

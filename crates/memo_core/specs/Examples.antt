@@ -1,10 +1,10 @@
 -- Small rooms, and full ones, on which the definitions are computed.
 use Rattle.std.specs.Prelude.{ℕ, zero, suc, List, [], ◌∷◌, replicate}
 use Rattle.memo_core.specs.Memo.{MemoItem}
-use Rattle.memo_core.specs.declared.entry.Entry.{Entry}
-use Rattle.memo_core.specs.declared.entry.Entry.TheVariants as entry
-use Rattle.memo_core.specs.declared.memo_kind.MemoKind.{MemoKind}
-use Rattle.memo_core.specs.declared.memo_kind.MemoKind.TheVariants.{Flat, Paths}
+use Rattle.whole_profiles.specs.declared.entry.Entry.{Entry}
+use Rattle.whole_profiles.specs.declared.entry.Entry.TheVariants as entry
+use Rattle.whole_profiles.specs.declared.memo_kind.MemoKind.{MemoKind}
+use Rattle.whole_profiles.specs.declared.memo_kind.MemoKind.TheVariants.{Flat, Paths}
 
 -- profiles of so many nanoseconds in which no call was open
 abbrev pub idle_flat : ℕ → Entry

@@ -4,9 +4,9 @@ use Rattle.std.specs.Prelude.{Some, None, Ok, IsSome}
 use Rattle.memo_core.specs.Memo.{MemoItem, IsMemo, is_item_of, entry_under, with_recent, most_recent}
 use Rattle.memo_core.specs.Runs.{MemoUse, MemoRun, last_filled}
 use Rattle.memo_core.specs.Using.{LooksUp}
-use Rattle.memo_core.specs.declared.entry.Entry.{Entry}
+use Rattle.whole_profiles.specs.declared.entry.Entry.{Entry}
 use Rattle.memo_core.specs.declared.limits.TheConstants.{MEMO_ENTRIES}
-use Rattle.memo_core.specs.declared.memo_kind.MemoKind.{MemoKind}
+use Rattle.whole_profiles.specs.declared.memo_kind.MemoKind.{MemoKind}
 
 -- an entry that was filled in is found
 abbrev pub FilledIsFound : Type 0

@@ -1,5 +1,4 @@
 pub mod Cached
-pub mod Entry
 pub mod Examples
 pub mod Laws
 pub mod Memo

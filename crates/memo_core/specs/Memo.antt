@@ -4,13 +4,13 @@ use Rattle.std.specs.Prelude.{List, [], ◌∷◌, ◌++◌, length, filter, dro
 use Rattle.std.specs.Coded.{Coded, code_by, coded×, coded_ℕ}
 use Rattle.std.specs.List.{find}
 use Rattle.std.specs.Option.{option_map}
-use Rattle.memo_core.specs.Entry.{entry_kind, entry_rows}
-use Rattle.memo_core.specs.contracts.entry.Entry as entry_row
-use Rattle.memo_core.specs.contracts.memo_kind.MemoKind as kind_row
-use Rattle.memo_core.specs.declared.entry.Entry.{Entry}
+use Rattle.whole_profiles.specs.Entry.{entry_kind, entry_rows}
+use Rattle.whole_profiles.specs.contracts.entry.Entry as entry_row
+use Rattle.whole_profiles.specs.contracts.memo_kind.MemoKind as kind_row
+use Rattle.whole_profiles.specs.declared.entry.Entry.{Entry}
 use Rattle.memo_core.specs.declared.limits.TheConstants.{MEMO_ENTRIES, MEMO_ROWS}
-use Rattle.memo_core.specs.declared.memo_kind.MemoKind.{MemoKind}
-use Rattle.memo_core.specs.declared.memo_kind.MemoKind.TheVariants.{Flat, Paths}
+use Rattle.whole_profiles.specs.declared.memo_kind.MemoKind.{MemoKind}
+use Rattle.whole_profiles.specs.declared.memo_kind.MemoKind.TheVariants.{Flat, Paths}
 
 -- an entry with the number of its node and its kind
 pub record MemoItem : Type 0 where

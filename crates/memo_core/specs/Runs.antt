@@ -2,12 +2,12 @@
 use Rattle.std.specs.Prelude.{◌≡◌, ◌&&◌, if◌then◌else◌, nat_le, ℕ, List, [], ◌∷◌, Option, Some, None, Result}
 use Rattle.std.specs.Option.{option_or}
 use Rattle.trace_base.specs.declared.memory.Memory.{Memory}
-use Rattle.memo_core.specs.Entry.{entry_kind, entry_rows}
+use Rattle.whole_profiles.specs.Entry.{entry_kind, entry_rows}
 use Rattle.memo_core.specs.Memo.{MemoItem, is_item_of}
 use Rattle.memo_core.specs.Using.{LooksUp, FillsIn}
-use Rattle.memo_core.specs.declared.entry.Entry.{Entry}
+use Rattle.whole_profiles.specs.declared.entry.Entry.{Entry}
 use Rattle.memo_core.specs.declared.limits.TheConstants.{MEMO_ROWS}
-use Rattle.memo_core.specs.declared.memo_kind.MemoKind.{MemoKind}
+use Rattle.whole_profiles.specs.declared.memo_kind.MemoKind.{MemoKind}
 
 -- a look with its answer, or a fill
 pub data MemoUse : Type 0 where

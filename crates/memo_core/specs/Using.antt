@@ -1,11 +1,11 @@
 -- What is answered and what changes when an entry is looked up, and when one is filled in.
 use Rattle.std.specs.Prelude.{◌≡◌, ◌<◌, ◌≤◌, ◌⊎◌, ℕ, List, Option, Some, None, Result, Ok, Err, IsSome}
 use Rattle.trace_base.specs.declared.memory.Memory.{Memory}
-use Rattle.memo_core.specs.Entry.{entry_rows}
+use Rattle.whole_profiles.specs.Entry.{entry_rows}
 use Rattle.memo_core.specs.Memo.{MemoItem, entry_under, with_recent, most_recent}
-use Rattle.memo_core.specs.declared.entry.Entry.{Entry}
+use Rattle.whole_profiles.specs.declared.entry.Entry.{Entry}
 use Rattle.memo_core.specs.declared.limits.TheConstants.{MEMO_ROWS}
-use Rattle.memo_core.specs.declared.memo_kind.MemoKind.{MemoKind}
+use Rattle.whole_profiles.specs.declared.memo_kind.MemoKind.{MemoKind}
 
 -- an entry that is there is answered and becomes the most recently used one; where there is none nothing
 -- changes; memory may be wanted only for one that is there, and then nothing changes

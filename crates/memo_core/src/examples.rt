@@ -7,7 +7,7 @@ ghost use Rattle.memo_core.specs.Memo.{entry_under, items_besides, most_recent, 
 ghost use Rattle.memo_core.specs.Runs.{Filled, Looked, last_filled};
 ghost use Rattle.memo_core.specs.Using.{FillsIn, LooksUp};
 ghost use Rattle.memo_core.specs.declared.limits.TheConstants.{MEMO_ENTRIES};
-ghost use Rattle.memo_core.specs.declared.memo_kind.MemoKind.TheVariants.{Flat, Paths};
+ghost use Rattle.whole_profiles.specs.declared.memo_kind.MemoKind.TheVariants.{Flat, Paths};
 
 /// What is found: each kind of a number by itself, and nothing of a number or a kind that isn't there.
 pub fn entries_of_three_items()

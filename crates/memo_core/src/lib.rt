@@ -1,15 +1,13 @@
 //! A memo room as a value: profiles of nodes by number and kind, the most recently used ones.
 #![tactic(auto)]
 
-mod entry;
+mod entries;
 mod examples;
 mod laws;
 mod limits;
 mod memo;
 mod memo_key;
-mod memo_kind;
 
-pub use entry::Entry;
 pub use examples::{
     entries_of_three_items, fills_of_a_full_room, fills_of_three_items, last_fills,
     looks_at_three_items, orders_of_three_items,
@@ -17,4 +15,4 @@ pub use examples::{
 pub use laws::{filled_or_nothing, what_a_fill_leaves};
 pub use limits::{MEMO_ENTRIES, MEMO_ROWS};
 pub use memo::Memo;
-pub use memo_kind::MemoKind;
+pub use whole_profiles::{Entry, MemoKind};

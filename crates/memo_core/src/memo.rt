@@ -1,15 +1,15 @@
 ghost use Rattle.std.specs.Prelude.{◌≡◌, [], IfOk};
-ghost use Rattle.memo_core.specs.Entry.{entry_kind};
+ghost use Rattle.whole_profiles.specs.Entry.{entry_kind};
 
-use crate::entry::Entry;
+use crate::entries::{copy_of, tight_entry};
 use crate::limits::{MEMO_ENTRIES, MEMO_ROWS};
 use crate::memo_key::MemoKey;
-use crate::memo_kind::MemoKind;
 use lru::LruCache;
 use std::alloc::Global;
 use std::marker::Model;
 use std::num::NonZeroUsize;
 use trace_base::Memory;
+use whole_profiles::{Entry, MemoKind};
 
 /// A room of the memo: profiles of whole nodes, each under the number of its node and its kind. It keeps the
 /// `MEMO_ENTRIES` most recently used ones.
@@ -61,7 +61,7 @@ impl Memo {
         let Some(entry) = self.cache.peek(&key) else {
             return Ok(None);
         };
-        let Ok(copy) = entry.copy(self.alloc) else {
+        let Ok(copy) = copy_of(self.alloc, entry) else {
             return Err(Memory);
         };
         self.cache.promote(&key);
@@ -81,6 +81,6 @@ impl Memo {
         if entry.rows() > MEMO_ROWS {
             return;
         }
-        drop(cache.put(MemoKey { number: n, kind }, entry.tight(self.alloc)));
+        drop(cache.put(MemoKey { number: n, kind }, tight_entry(self.alloc, entry)));
     }
 }

@@ -1,4 +1,4 @@
-use crate::memo_kind::MemoKind;
+use whole_profiles::MemoKind;
 
 /// What an entry is found by.
 #[derive(Clone, Copy, PartialEq, Eq, Hash)]

@@ -9,8 +9,8 @@ after : (c : goal.After-drop-2) → IsAfterFill c.self.inside.cache
     (record { number = c.args.n; kind = c.args.kind })
     (record { valid = c.self.invariant.0; cap = c.self.invariant.1 }) c.args.entry c.put.new.self
 after c = after_put c.self.inside.cache (record { number = c.args.n; kind = c.args.kind })
-    (record { valid = c.self.invariant.0; cap = c.self.invariant.1 }) c.tight.result c.args.entry
-    c.put.result c.put.new.self c.tight.ensures c.requires
+    (record { valid = c.self.invariant.0; cap = c.self.invariant.1 }) c.tight_entry.result c.args.entry
+    c.put.result c.put.new.self c.tight_entry.ensures c.requires
     (omega (arith, c.rows.ensures, c.if-rows-gt-MEMO_ROWS.false)) c.put.ensures.entries c.put.ensures.err
     c.put.ensures.succeeds
 

@@ -15,8 +15,8 @@ returns-in_default-clause-answer c = (
   refl,
 )
 
-pub returns-in_default-copy-clause-answer : goal.returns-in_default-copy-clause-answer
-returns-in_default-copy-clause-answer c = subst (λ (l : List MemoItem).
+pub returns-in_default-copy_of-clause-answer : goal.returns-in_default-copy_of-clause-answer
+returns-in_default-copy_of-clause-answer c = subst (λ (l : List MemoItem).
     LooksUp l c.args.n c.args.kind (Err (record {})) l)
     c.self.view_is (no_copy c.self.inside.cache (record { number = c.args.n; kind = c.args.kind })
     (record { valid = c.self.invariant.0; cap = c.self.invariant.1 }) c.in-Some.entry.now (record {})
