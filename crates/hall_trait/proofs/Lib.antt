@@ -1,2 +1,3 @@
 pub mod HistoryProps
+pub mod Nexts
 pub mod PublishedStreams

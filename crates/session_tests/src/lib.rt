@@ -2,6 +2,8 @@
 #![tactic(auto)]
 
 #[cfg(test)]
+mod halls;
+#[cfg(test)]
 mod protocol;
 #[cfg(test)]
 mod requests;

@@ -23,7 +23,7 @@ const CALLS: &[u8] =
     b"2 0 p0 P 0 \"rank 0\"\n4 0 S p0 main\n4 0.1 S p0 f\n5 0.2 S p0\n4 0.3 S p0 f\n5 0.4 S p0\n5 0.5 S p0\n3 0.5 P p0\nFLAT 1 * 0 500000000\nQUIT\n";
 
 /// What the first session writes.
-const REPLIES: &[u8] =
+pub(crate) const REPLIES: &[u8] =
     b"OK PUT 1 1 2 0 @3\nOK FLAT 2 1 0 @4\n1 1 500000000 300000000 main\n2 2 200000000 200000000 f\nOK QUIT\n";
 
 // The bytes with the definitions between them.
@@ -35,7 +35,7 @@ fn text_of(alloc: Global, before: &[u8], behind: &[u8]) -> Result<Vec<u8>, Memor
 }
 
 // The first session: a small trace, a profile, QUIT.
-fn first_session(alloc: Global) -> Result<Vec<u8>, Memory> {
+pub(crate) fn first_session(alloc: Global) -> Result<Vec<u8>, Memory> {
     text_of(alloc, b"PUT 697\n", CALLS)
 }
 
