@@ -2,12 +2,14 @@ pub mod ById
 pub mod EndTraces
 pub mod EndedMore
 pub mod FilteredLists
+pub mod FollowsRegistry
 pub mod KeepsMore
 pub mod KeptTraces
 pub mod LawEntries
 pub mod LawTraces
 pub mod OneTrace
 pub mod OpenRows
+pub mod RootsKept
 pub mod RootsOfTracks
 pub mod RowsOfTraces
 pub mod SoundAsks
@@ -22,4 +24,5 @@ pub mod StandsSealed
 pub mod StandsStarted
 pub mod ToldTracks
 pub mod Users
+pub mod UsedByQueries
 pub mod UsersOfTraces

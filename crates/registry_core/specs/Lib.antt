@@ -3,5 +3,7 @@ pub mod Closing
 pub mod Examples
 pub mod Loading
 pub mod Registry
+pub mod Roots
 pub mod Standing
 pub mod Trace
+pub mod UsedBy

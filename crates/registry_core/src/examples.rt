@@ -13,7 +13,9 @@ ghost use Rattle.registry_core.specs.Examples.{second_root, two_tracks, with_non
 ghost use Rattle.registry_core.specs.Loading.{AdmitsIn, AwaitsSeal, AwaitsTrack, EndsIn, with_published};
 ghost use Rattle.registry_core.specs.Loading.{with_sealed};
 ghost use Rattle.registry_core.specs.Registry.{new_registry};
+ghost use Rattle.registry_core.specs.Roots.{ExchangesRoots, roots_freed_by, roots_kept, times_root};
 ghost use Rattle.registry_core.specs.Trace.{published_by, roots_in};
+ghost use Rattle.registry_core.specs.UsedBy.{AreUsedBy, times_named};
 ghost use Rattle.registry_core.specs.declared.answers.RegAsk.TheVariants as ask;
 ghost use Rattle.registry_core.specs.declared.answers.RegClose.TheVariants as close;
 ghost use Rattle.registry_core.specs.declared.answers.RegEnd.TheVariants as end;
@@ -113,4 +115,21 @@ pub fn names_compared()
 pub fn roots_between_gaps()
     ensures some { roots_in (None ∷ Some second_root ∷ None ∷ Some first_root ∷ []) ≡ 41 ∷ 40 ∷ [] }
     ensures none { roots_in (None ∷ None ∷ []) ≡ [] }
+{}
+
+/// The roots of two traces that are kept, how often each stands, and roots that come free.
+pub fn roots_that_are_kept()
+    ensures two { roots_kept (loading_trace 0 only_first ∷ sealed_trace 0 both ∷ []) ≡ 40 ∷ 40 ∷ 41 ∷ [] }
+    ensures times { times_root 40 (40 ∷ 40 ∷ 41 ∷ []) ≡ 2 }
+    ensures taken { ExchangesRoots (40 ∷ 40 ∷ 41 ∷ []) (41 ∷ 40 ∷ []) (40 ∷ []) [] }
+    ensures freed { roots_freed_by (record { first = None; second = Some (41 ∷ []) }) ≡ 41 ∷ [] }
+{}
+
+/// A trace that two queries use, one of which names it twice.
+pub fn users_by_queries()
+    ensures times { times_named (One 1 ∷ Two 1 1 ∷ []) 1 ≡ 3 }
+    ensures other { times_named (One 1 ∷ Two 1 1 ∷ []) 2 ≡ 0 }
+    ensures used { AreUsedBy (sealed_trace 3 both ∷ []) (One 1 ∷ Two 1 1 ∷ []) }
+    ensures unused { ¬ AreUsedBy (sealed_trace 0 both ∷ []) (One 1 ∷ []) }
+    ensures gone { ¬ AreUsedBy [] (One 1 ∷ []) }
 {}

@@ -9,11 +9,11 @@ ghost use Rattle.hall_history.specs.declared.listing.Listing.{Listing};
 ghost use Rattle.trace_base.specs.declared.names.TraceInfo.{TraceInfo};
 ghost use Rattle.hall_history.specs.declared.published.Published.TheVariants as told;
 ghost use Rattle.hall_history.specs.History.{Asked, Closed, Dropped, Entry, Opened, Published, PublishedTree};
-ghost use Rattle.hall_history.specs.History.{Sealed, open_ids, published_of};
+ghost use Rattle.hall_history.specs.History.{IsTrackTree, MayFollow, Sealed, open_ids, published_of};
 ghost use Rattle.node_key.specs.Stands.{KeyAt, Stands};
 ghost use Rattle.node_key.specs.Tree.{Tree};
 ghost use Rattle.registry_core.specs.Asking.{AreUsed, AsksIn, after_unpin};
-ghost use Rattle.registry_core.specs.Closing.{ClosesIn, ListsIn, rows_of};
+ghost use Rattle.registry_core.specs.Closing.{ClosesIn, IsSealedTrace, ListsIn, rows_of};
 ghost use Rattle.registry_core.specs.Loading.{AdmitsIn, AwaitsSeal, AwaitsTrack, EndsIn, IsLoadingTrace};
 ghost use Rattle.registry_core.specs.Loading.{with_published, with_sealed};
 ghost use Rattle.registry_core.specs.Registry.{RegistryValue, kept_trace, new_registry, open_count};
@@ -132,6 +132,26 @@ pub fn telling()
         (id place track : ℕ) (t : Trace) → StandsFor (AreTrees key_at) start r entries
         → kept_trace r.traces id ≡ Some t → published_by t place track ≡ told.NotYet
         → published_of (take (place - start.place) entries) id track ≡ None }
+{}
+
+/// What the registry is ready for may follow in the history, if its traces got the ids from 1 on.
+pub fn following()
+    ensures opened { (key_at : KeyAt) (place : ℕ) (old new : RegistryValue) (entries : List Entry)
+        (info : TraceInfo) (o : OpenedTrace)
+        → StandsFor (AreTrees key_at) (record { place = place; id = 1 }) old entries → IsLegalInfo info
+        → AdmitsIn old info (Ok o) new → MayFollow entries (Opened o.id info) }
+    ensures published { (key_at : KeyAt) (start : Start) (r : RegistryValue) (entries : List Entry)
+        (id track : ℕ) (p : PublishedTree) → StandsFor (AreTrees key_at) start r entries
+        → AwaitsTrack r id track → IsTrackTree entries id track p
+        → MayFollow entries (Published id track p) }
+    ensures sealed { (key_at : KeyAt) (start : Start) (r : RegistryValue) (entries : List Entry) (id : ℕ)
+        → StandsFor (AreTrees key_at) start r entries → AwaitsSeal r id → MayFollow entries (Sealed id) }
+    ensures dropped { (key_at : KeyAt) (start : Start) (r : RegistryValue) (entries : List Entry) (id : ℕ)
+        → StandsFor (AreTrees key_at) start r entries → IsLoadingTrace r id
+        → MayFollow entries (Dropped id) }
+    ensures closed { (key_at : KeyAt) (start : Start) (r : RegistryValue) (entries : List Entry) (id : ℕ)
+        (t : Trace) → StandsFor (AreTrees key_at) start r entries → IsSealedTrace r id t
+        → MayFollow entries (Closed id) }
 {}
 
 /// A registry stands for the history as well where more keys are found.

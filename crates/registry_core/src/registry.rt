@@ -10,7 +10,7 @@ ghost use Rattle.registry_core.specs.Closing.{ClosesIn, ListsIn};
 ghost use Rattle.registry_core.specs.Loading.{EndsIn, AdmitsIn, AwaitsSeal, AwaitsTrack};
 ghost use Rattle.registry_core.specs.Loading.{IsLoadingTrace, with_published, with_sealed};
 ghost use Rattle.registry_core.specs.Registry.{FitsPlaces, after_entry, kept_trace, new_registry};
-ghost use Rattle.registry_core.specs.Registry.{open_trace, taken_places};
+ghost use Rattle.registry_core.specs.Registry.{open_count, open_trace, taken_places};
 ghost use Rattle.registry_core.specs.Trace.{Trace, published_by};
 
 use crate::answers::{Opened, RegAsk, RegClose, RegEnd, RegFault, RegUnpin};
@@ -83,6 +83,13 @@ impl Registry {
         ensures most { result ≤ MAX_PLACES }
     {
         self.place + self.promised
+    }
+
+    /// How many traces are open.
+    pub fn open_traces(&self) -> u64
+        ensures { result ≡ open_count self.now.traces }
+    {
+        self.open_traces
     }
 
     // Makes an entry that changes nothing else, and answers its place.
