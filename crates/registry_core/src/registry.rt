@@ -92,6 +92,13 @@ impl Registry {
         self.open_traces
     }
 
+    /// How many places are promised to loading traces.
+    pub fn promised(&self) -> u64
+        ensures { result ≡ self.now.promised }
+    {
+        self.promised
+    }
+
     // Makes an entry that changes nothing else, and answers its place.
     fn enter(&mut self) -> u64
         requires { FitsPlaces self.old 1 }
