@@ -9,6 +9,7 @@ pub mod LawEntries
 pub mod LawTraces
 pub mod OneTrace
 pub mod OpenRows
+pub mod RootsGivenBack
 pub mod RootsKept
 pub mod RootsOfTracks
 pub mod RowsOfTraces

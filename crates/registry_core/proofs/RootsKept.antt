@@ -1,15 +1,18 @@
 -- The roots of the traces that are kept, where these change.
-use Rattle.std.proofs.Common.{◌≡◌, ℕ, ◌+◌, true, false, ◌&&◌, not, cond, eqb, suc, zero, List, [], ◌∷◌}
+use Rattle.std.proofs.Common.{append-nil, ◌≡◌, ℕ, ◌+◌, true, false, ◌&&◌, not, cond, eqb, suc, zero, List, [], ◌∷◌}
 use Rattle.std.proofs.Common.{◌++◌, map, filter, Option, None, Some, inl, inr, refl, sym, ap, ap₂, ◌∙◌, arith}
 use Rattle.std.proofs.Common.{find, option_map, sum_by}
-use Rattle.std.specs.Prelude.{replicate, slice_get, slice_set, unwrap_or}
+use Rattle.std.specs.Prelude.{length, replicate, slice_get, slice_set, unwrap_or}
 use Rattle.std.proofs.lemmas.Bool.{and_parts, cases_Bool}
+use Rattle.std.proofs.lemmas.List.Concat.{flat_map-append}
 use Rattle.std.proofs.lemmas.List.Sums.{sum_by-append, sum_by-cons}
 use Rattle.std.proofs.lemmas.Map.Keys.{sorted_tail}
 use Rattle.registry_core.specs.declared.track_root.TrackRoot.{TrackRoot}
-use Rattle.registry_core.specs.Registry.{has_id, kept_trace, with_changed, without_trace}
+use Rattle.registry_core.specs.Registry.{RegistryValue, has_id, kept_trace, with_changed, without_trace}
 use Rattle.registry_core.specs.Roots.{ExchangesRoots, roots_kept, times_root}
-use Rattle.registry_core.specs.Trace.{Trace, is_over, roots_in, with_root}
+use Rattle.registry_core.specs.Trace.{Trace, is_over, just_opened, roots_in, with_root}
+use Rattle.registry_core.specs.Loading.{with_opened}
+use Rattle.trace_base.specs.declared.names.TraceInfo.{TraceInfo}
 use Rattle.registry_core.proofs.KeptTraces.{IsRising, ids_of, none_behind}
 use Rattle.registry_core.proofs.OneTrace.{sum-changed, sum-without}
 
@@ -42,12 +45,22 @@ roots-changed id f same traces = roots-same (λ t. cond (has_id id t) (f t) t)
     (λ t. elim (has_id id t) as (λ b. (cond b (f t) t).tracks ≡ t.tracks)
     [ true ↦ same t | false ↦ refl ]) traces
 
--- ---- one root more
+-- ---- one trace more
 
 -- slots that are free have no roots
-pub no_roots : (n : ℕ) → roots_in (replicate n None) ≡ []
+no_roots : (n : ℕ) → roots_in (replicate n None) ≡ []
 no_roots zero = refl
 no_roots (suc n) = no_roots n
+
+-- a trace that was just opened adds none
+pub roots-opened : (r : RegistryValue) (info : TraceInfo)
+    → roots_kept (with_opened r info).traces ≡ roots_kept r.traces
+roots-opened r info =
+    flat_map-append (λ (t : Trace). roots_in t.tracks) r.traces (just_opened r.next_id info ∷ [])
+    ∙ ap (λ roots. roots_kept r.traces ++ (roots ++ [])) (no_roots (length info.names.tracks))
+    ∙ append-nil (roots_kept r.traces)
+
+-- ---- one root more
 
 -- a slot that was free has a root
 roots-filled : (n : ℕ) (slots : List (Option TrackRoot)) (track : ℕ) (r : TrackRoot)

@@ -101,17 +101,22 @@ none_passes p (x ∷ xs) none = elim (cases_Bool (p x)) [
       let later = rw miss at none in All-cons (λ y. p y ≡ false) x xs miss (none_passes p xs later)
 ]
 
--- a trace that is asked for is kept, where none is unknown
-pub known-kept : (r : RegistryValue) (ids : AskIds) → first_unknown r ids ≡ None → (id : ℕ)
-    → 0 < times_asked ids id → IsSome (kept_trace r.traces id)
-known-kept r ids known id asked = elim (has_or_not id (asked_ids ids)) [
+-- a trace that is asked for is open, where none is unknown
+pub known-open : (r : RegistryValue) (ids : AskIds) → first_unknown r ids ≡ None → (id : ℕ)
+    → 0 < times_asked ids id → is_some (open_trace r.traces id) ≡ true
+known-open r ids known id asked = elim (has_or_not id (asked_ids ids)) [
   | inl none ↦ absurd (omega (arith, none, asked))
   | inr there ↦
       let open_one : not (is_some (open_trace r.traces id)) ≡ false =
       All-contains (λ x. not (is_some (open_trace r.traces x)) ≡ false) (asked_ids ids) id
       (none_passes (λ x. not (is_some (open_trace r.traces x))) (asked_ids ids) known) there in
-      kept-some r.traces id (sym (not-false (is_some (open_trace r.traces id)) open_one))
+      not-false (is_some (open_trace r.traces id)) open_one
 ]
+
+-- so it is kept
+pub known-kept : (r : RegistryValue) (ids : AskIds) → first_unknown r ids ≡ None → (id : ℕ)
+    → 0 < times_asked ids id → IsSome (kept_trace r.traces id)
+known-kept r ids known id asked = kept-some r.traces id (sym (known-open r ids known id asked))
 
 pub used-asked : (ids : AskIds) (traces : List Trace) (queries : List AskIds)
     → ((id : ℕ) → 0 < times_asked ids id → IsSome (kept_trace traces id)) → AreUsedBy traces queries

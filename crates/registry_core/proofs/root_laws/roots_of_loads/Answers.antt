@@ -1,18 +1,14 @@
-use Rattle.std.proofs.Common.{◌≡◌, ℕ, [], ◌∷◌, refl, sym, ap, ◌∙◌, subst, append-nil}
-use Rattle.std.proofs.lemmas.List.Concat.{flat_map-append}
+use Rattle.std.proofs.Common.{[], refl, sym, ap, ◌∙◌, subst}
 use Rattle.registry_core.specs.Loading.{with_ended}
 use Rattle.registry_core.specs.Registry.{RegistryValue}
 use Rattle.registry_core.specs.Roots.{ExchangesRoots, roots_kept}
-use Rattle.registry_core.specs.Trace.{Trace, just_opened, kept_for_users, loaded, roots_in}
+use Rattle.registry_core.specs.Trace.{kept_for_users, loaded}
 use Rattle.registry_core.proofs.KeptTraces.{kept_own}
-use Rattle.registry_core.proofs.RootsKept.{no_roots, roots-changed, roots-published, roots-without}
+use Rattle.registry_core.proofs.RootsKept.{roots-changed, roots-opened, roots-published, roots-without}
 use Rattle.registry_core.proofs.root_laws.roots_of_loads.Goals as goal
 
 pub returns-clause-opened : goal.returns-clause-opened
-returns-clause-opened c r info =
-    flat_map-append (λ (t : Trace). roots_in t.tracks) r.traces (just_opened r.next_id info ∷ [])
-    ∙ ap (λ roots. Rattle.std.proofs.Common.◌++◌ (roots_kept r.traces) (Rattle.std.proofs.Common.◌++◌ roots []))
-    (no_roots (Rattle.std.specs.Prelude.length info.names.tracks)) ∙ append-nil (roots_kept r.traces)
+returns-clause-opened c r info = roots-opened r info
 
 pub returns-clause-published : goal.returns-clause-published
 returns-clause-published c r id track start root sound (t, kept, loading, free) =
