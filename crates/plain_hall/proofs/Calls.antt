@@ -1,23 +1,17 @@
 -- The answers of a plain hall's calls, as its seat before and after tells them.
 use Rattle.std.proofs.Common.{◌≡◌, ℕ, ◌+◌, ◌-◌, ◌≤◌, Bool, true, false, cond, eqb, List, [], ◌∷◌, ◌++◌}
-use Rattle.std.proofs.Common.{length, Ok, refl, sym, ap, ap₂, ◌∙◌, subst, arith, length-append, Contains, inl}
-use Rattle.std.proofs.Common.{inr}
+use Rattle.std.proofs.Common.{length, Ok, refl, sym, ap, ap₂, ◌∙◌, subst, arith, length-append, Contains}
 use Rattle.std.specs.Option.{option_map_or}
 use Rattle.std.proofs.lemmas.Bool.{eq-eqb, eqb-true}
 use Rattle.list_lemmas.proofs.Options.{or_None}
-use Rattle.hall_history.specs.declared.asks.AskIds.{AskIds}
-use Rattle.hall_history.specs.declared.asks.AskIds.TheVariants.{One, Two}
 use Rattle.hall_history.specs.declared.asks.PassState.TheVariants.{Straight, Whole}
 use Rattle.trace_base.specs.declared.names.TraceInfo.{TraceInfo}
 use Rattle.hall_trait.specs.Answers.{HasRoom, places_of_load, Admits, MakesLoadEntry, left_after}
-use Rattle.hall_trait.specs.Answers.{AreOpen, IsFirstUnknown}
-use Rattle.hall_history.specs.History.{Entry, Opened, Published, Asked, opened_ids, is_open}
+use Rattle.hall_history.specs.History.{Entry, Opened, Published, Asked, opened_ids}
 use Rattle.hall_history.specs.History.{is_loading, tracks_of, published_count, PublishedTree}
-use Rattle.plain_hall.specs.Kept.{IsKept}
 use Rattle.plain_hall.specs.Loading.{pass_of, passes_of}
 use Rattle.plain_hall.specs.Orderly.{IsOrderly}
 use Rattle.hall_trait.specs.Pass.{state_at, left_in, state_after, pass_view, advanced, IsFresh, IsNext}
-use Rattle.hall_trait.specs.Pin.{first_id, second_id}
 use Rattle.plain_hall.specs.PlainSeat.{plain_seat}
 use Rattle.hall_history.specs.Seat.{Becomes}
 use Rattle.hall_history.specs.declared.seat.PinView.{PinView}
@@ -37,9 +31,9 @@ pub record IsPassOf (entries : List Entry) (pass : LoadPass) : Type 0 where
   pub state : state_at (published_count entries pass.id) (tracks_of entries pass.id) ≡ pass.state
   pub counted : published_count entries pass.id ≤ tracks_of entries pass.id
 
-pub pass_facts : (entries : List Entry) (owed live : ℕ) (pass : LoadPass)
-    → IsKept entries owed live → Contains (passes_of entries) (pass_view pass) → IsPassOf entries pass
-pass_facts entries owed live pass kept has =
+pub pass_facts : (entries : List Entry) (pass : LoadPass)
+    → IsOrderly entries → Contains (passes_of entries) (pass_view pass) → IsPassOf entries pass
+pass_facts entries pass orderly has =
     let facts = has_loading entries (pass_view pass) has in
     record {
       loading = facts.0;
@@ -47,7 +41,7 @@ pass_facts entries owed live pass kept has =
       from = sym (ap (λ (p : PassView). p.from) facts.1);
       to = ap (λ (p : PassView). p.to) facts.1;
       state = ap (λ (p : PassView). p.state) facts.1;
-      counted = kept.orderly.counted pass.id;
+      counted = orderly.counted pass.id;
     }
 
 -- the state tells how many tracks are published
@@ -88,13 +82,13 @@ left_is_rest entries pass facts = ap₂ left_in (sym facts.state) (sym facts.to)
 same_view : (p q : PassView) → p.id ≡ q.id → p.from ≡ q.from → p.to ≡ q.to → p.state ≡ q.state → p ≡ q
 same_view p q id from to state = λ i. record { id = id i; from = from i; to = to i; state = state i }
 
-pub opened_answer : (stakes : List Stake) (old new : List Entry) (owed live : ℕ) (pins : List PinView) (pass : LoadPass)
+pub opened_answer : (stakes : List Stake) (old new : List Entry) (pins : List PinView) (pass : LoadPass)
     (info : TraceInfo) → new ≡ old ++ Opened pass.id info ∷ [] → pass.id ≡ length (opened_ids old) + 1
     → pass.place ≡ length new → IsFresh pass (length info.names.tracks) → HasRoom old (places_of_load info)
-    → IsKept old owed live → Admits true (plain_seat stakes old pins) (plain_seat stakes new pins) info (Ok pass)
-opened_answer stakes old new owed live pins pass info seen next last fresh room kept =
+    → IsOrderly old → Admits true (plain_seat stakes old pins) (plain_seat stakes new pins) info (Ok pass)
+opened_answer stakes old new pins pass info seen next last fresh room orderly =
     let more : Opens old new pass.id info = subst (λ (es : List Entry). Opens old es pass.id info) (sym seen)
-    (opened_opens old pass.id info kept.orderly next) in
+    (opened_opens old pass.id info orderly next) in
     let tracks : tracks_of new pass.id ≡ length info.names.tracks =
     ap (λ o. option_map_or (λ (i : TraceInfo). length i.names.tracks) o 0) more.told in
     let view : pass_of new pass.id ≡ pass_view pass = same_view _ _ refl (sym fresh.from)
@@ -146,19 +140,3 @@ published_left old pass track s orderly next facts =
 -- a question leaves the passes as they are
 pub asked_passes : (old new : List Entry) → new ≡ old ++ Asked ∷ [] → passes_of new ≡ passes_of old
 asked_passes old new seen = ap passes_of seen ∙ (asked_keeps old).passes
-
--- which of the traces that are asked for isn't open
-pub first_unknown : (entries : List Entry) (ids : AskIds) → is_open entries (first_id ids) ≡ false
-    → IsFirstUnknown entries ids (first_id ids)
-first_unknown entries (One a) off = (refl, off)
-first_unknown entries (Two a b) off = inl (refl, off)
-
-pub second_unknown : (entries : List Entry) (ids : AskIds) → is_open entries (first_id ids) ≡ true
-    → is_open entries (second_id ids) ≡ false → IsFirstUnknown entries ids (second_id ids)
-second_unknown entries (One a) on off = (refl, off)
-second_unknown entries (Two a b) on off = inr (refl, on, off)
-
-pub both_open : (entries : List Entry) (ids : AskIds) → is_open entries (first_id ids) ≡ true
-    → is_open entries (second_id ids) ≡ true → AreOpen entries ids
-both_open entries (One a) first second = first
-both_open entries (Two a b) first second = (first, second)

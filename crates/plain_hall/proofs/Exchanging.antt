@@ -1,6 +1,6 @@
 -- What calls on nodes answer, as the seat of a plain hall before and after tells them.
-use Rattle.std.proofs.Common.{◌≡◌, ℕ, ◌+◌, ◌<◌, List, [], ◌∷◌, length, drop, get_or, Ok, Some}
-use Rattle.std.proofs.Common.{refl, sym, ap, ◌∙◌, add-one, drop-cons, subst}
+use Rattle.std.proofs.Common.{◌≡◌, ℕ, List, [], ◌∷◌, length, Ok, Some}
+use Rattle.std.proofs.Common.{refl, sym, ap, ◌∙◌, subst}
 use Rattle.std.specs.Prelude.{is_some, IsSome}
 use Rattle.std.specs.List.{AllZip, range_with_len}
 use Rattle.hall_trait.specs.Nodes.{ReadsNode, StakesNode}
@@ -18,14 +18,9 @@ use Rattle.node_key.specs.declared.tree.Branch.{Branch}
 use Rattle.shard_core.specs.declared.answers.Interned.{Interned}
 use Rattle.shard_core.specs.declared.answers.Interned.TheVariants.{Known, New}
 use Rattle.node_store.specs.Answering.{answered_number}
-use Rattle.node_store.specs.Given.{ever}
-use Rattle.node_store.specs.Kept.{NodesKept}
 use Rattle.std.proofs.lemmas.Option.{same_Some}
 use Rattle.plain_hall.specs.Loading.{passes_of}
 use Rattle.plain_hall.specs.PlainSeat.{plain_seat}
-use Rattle.plain_hall.specs.Rooted.{root_stake}
-use Rattle.plain_hall.specs.Spots.{stakes_at}
-use Rattle.plain_hall.specs.declared.spots.TrackSpot.{TrackSpot}
 
 -- some stakes are exchanged, and the history is the same
 pub exchanged : (old new taken given : List Stake) (seen now : List Entry) (pins : List PinView) → now ≡ seen
@@ -59,11 +54,3 @@ node_read key_at n t key at (own, ns, is, of, below) =
 
 pub stands_some : (key_at : KeyAt) (n : ℕ) (t : Tree) → Stands key_at n t → IsSome (key_at n)
 stands_some key_at n t stands = ap is_some stands.2
-
--- ---- the roots of a trace, one after the other
-
-pub next_root : (s : NodesKept) (spots : List TrackSpot) (i : ℕ) (spot : TrackSpot) → i < length spots
-    → stakes_at s (drop i spots)
-    ≡ root_stake (ever s.given) (get_or spots i spot).root ∷ stakes_at s (drop (i + 1) spots)
-next_root s spots i spot below = ap (stakes_at s) (drop-cons spots i spot below ∙ ap
-    (λ n. get_or spots i spot ∷ drop n spots) (sym (add-one i)))

@@ -1,20 +1,18 @@
 -- What a history tells of a trace was in one of its entries, and stays.
-use Rattle.std.proofs.Common.{◌≡◌, ℕ, ◌≤◌, Bool, true, false, ◌||◌, ◌&&◌, not, cond, eqb, List, [], ◌∷◌, ◌++◌}
+use Rattle.std.proofs.Common.{◌≡◌, ℕ, ◌≤◌, true, false, ◌&&◌, cond, eqb, List, [], ◌∷◌, ◌++◌}
 use Rattle.std.proofs.Common.{length, take, drop, Option, None, Some, refl, sym, ap, ◌∙◌, arith}
 use Rattle.std.proofs.Common.{length-append, Contains, get_or, map, subst}
-use Rattle.std.specs.Prelude.{slice_get, is_some, IsSome}
-use Rattle.std.specs.List.{list_any, filter_map, cons_option}
+use Rattle.std.specs.Prelude.{is_some, IsSome}
 use Rattle.std.specs.Option.{option_to_list, ForSome}
 use Rattle.std.proofs.lemmas.List.{take-append-drop, take-append-le, take_all}
 use Rattle.std.proofs.lemmas.Option.{cond_some}
 use Rattle.std.specs.Cmp.{first_so, second_so}
 use Rattle.list_lemmas.proofs.Found.{first-append, first_given, given_from_first}
 use Rattle.list_lemmas.proofs.Options.{or_stays}
-use Rattle.list_lemmas.proofs.Ranges.{in_range}
 use Rattle.trace_base.specs.declared.names.TraceInfo.{TraceInfo}
 use Rattle.hall_history.specs.History.{Entry, EntryOf, Opened, Published, Sealed, Dropped, Closed, Asked}
-use Rattle.hall_history.specs.History.{opened_id, info_opened, published_as, ends, opened_ids, info_of}
-use Rattle.hall_history.specs.History.{published_of, is_open, published_count, MayFollow, IsLegalHistory}
+use Rattle.hall_history.specs.History.{info_opened, published_as, info_of}
+use Rattle.hall_history.specs.History.{published_of, published_count, MayFollow, IsLegalHistory}
 use Rattle.hall_history.specs.History.{IsTrackTree, PublishedTree}
 use Rattle.hall_trait.specs.Pin.{first_id, second_id, id_at}
 use Rattle.plain_hall.specs.PlainSeat.{IsHeld, kept_view}
@@ -72,25 +70,6 @@ published_fits entries id track p legal at =
     let fits = tree.1 in
     (tree.0, (fits.0, info_stays entries where_from.0 id fits.0 fits.1, fits.2, fits.3), tree.2)
 
-among-told : {X : Type 0} → (entries : List (EntryOf X)) (id : ℕ) → list_any (λ other. eqb other id) (filter_map opened_id entries)
-    ≡ is_some (first_given (info_opened id) entries)
-among-told [] id = refl
-among-told (Opened other info ∷ entries) id =
-    elim (eqb other id) as (λ b. (b || list_any (λ other. eqb other id) (filter_map opened_id entries)) ≡
-    is_some (slice_get (cons_option (cond b (Some info) None) (filter_map (info_opened id) entries)) 0))
-    [ true ↦ refl | false ↦ among-told entries id ]
-among-told (Published other track s ∷ entries) id = among-told entries id
-among-told (Sealed other ∷ entries) id = among-told entries id
-among-told (Dropped other ∷ entries) id = among-told entries id
-among-told (Closed other ∷ entries) id = among-told entries id
-among-told (Asked ∷ entries) id = among-told entries id
-
--- whether a trace is open, by what it was opened with
-pub open_by : {X : Type 0} → (entries : List (EntryOf X)) (id : ℕ)
-    → is_open entries id ≡ (is_some (info_of entries id) && not (list_any (ends id) entries))
-unfolding is_open opened_ids info_of
-open_by entries id = ap (λ b. b && not (list_any (ends id) entries)) (among-told entries id)
-
 -- a track that isn't published has no stream
 pub not_published : {X : Type 0} → (entries : List (EntryOf X)) (id track : ℕ) → IsOrderly entries
     → published_count entries id ≤ track
@@ -100,29 +79,6 @@ not_published entries id track orderly past =
     (arith, nat_tests) in
     elim (published_of entries id track) as (λ o. is_some o ≡ false → o ≡ None)
     [ None ↦ λ e. refl | Some s ↦ λ e. absurd cc ] off
-
--- a trace of which something is told has an id that was given
-pub told_within : {X : Type 0} → (entries : List (EntryOf X)) (id : ℕ) → IsOrderly entries → IsSome (info_of entries id)
-    → (1 ≤ id) × (id ≤ length (opened_ids entries))
-unfolding opened_ids info_of
-told_within entries id orderly told =
-    let among : list_any (λ other. eqb other id) (opened_ids entries) ≡ true = among-told entries id ∙ told in
-    let within = in_range 1 (length (opened_ids entries)) id
-    (sym (ap (list_any (λ other. eqb other id)) orderly.ids) ∙ among) in
-    (within.0, omega arith)
-
-pub open_told : {X : Type 0} → (entries : List (EntryOf X)) (id : ℕ) → is_open entries id ≡ true → IsSome (info_of entries id)
-open_told entries id on = first_so _ _ (sym (open_by entries id) ∙ on)
-
-pub open_none : {X : Type 0} → (entries : List (EntryOf X)) (id : ℕ) → cond (is_open entries id) (info_of entries id) None ≡ None
-    → is_open entries id ≡ false
-open_none entries id none = go (is_open entries id) refl
-  where
-    go : (b : Bool) → is_open entries id ≡ b → b ≡ false
-    go false e = refl
-    go true e =
-        let nothing : info_of entries id ≡ None = sym (ap (λ b. cond b (info_of entries id) None) e) ∙ none in
-        sym (open_told entries id e) ∙ ap is_some nothing
 
 -- a pin is held on
 pub held_more : {X : Type 0} → (old new : List (EntryOf X)) (e : EntryOf X) (pin : Option KeptPin) → new ≡ old ++ e ∷ []
@@ -137,15 +93,15 @@ held_more old new e pin seen held p is =
       second = ap (λ es. is_some (info_of es (second_id p.ids))) same ∙ was.second;
     }
 
-pub held_now : {X : Type 0} → (entries : List (EntryOf X)) (pin : KeptPin) → pin.place ≡ length entries
-    → is_open entries (first_id pin.ids) ≡ true → is_open entries (second_id pin.ids) ≡ true
+pub held_told : {X : Type 0} → (entries : List (EntryOf X)) (pin : KeptPin) → pin.place ≡ length entries
+    → IsSome (info_of entries (first_id pin.ids)) → IsSome (info_of entries (second_id pin.ids))
     → IsHeld entries pin
-held_now entries pin last first_on second_on =
+held_told entries pin last first second =
     let same : take pin.place entries ≡ entries = take_all pin.place entries (omega arith) in
     record {
       place = omega arith;
-      first = ap (λ es. is_some (info_of es (first_id pin.ids))) same ∙ open_told entries _ first_on;
-      second = ap (λ es. is_some (info_of es (second_id pin.ids))) same ∙ open_told entries _ second_on;
+      first = ap (λ es. is_some (info_of es (first_id pin.ids))) same ∙ first;
+      second = ap (λ es. is_some (info_of es (second_id pin.ids))) same ∙ second;
     }
 
 -- the pin of the seat is the one that is kept

@@ -1,10 +1,9 @@
 -- A store keeps what it keeps for the same stakes in any order; and the rooms of a store in order.
-use Rattle.std.proofs.Common.{◌≡◌, ◌⊎◌, inl, inr, ◌+◌, cond, List, [], ◌∷◌, ◌++◌}
-use Rattle.std.proofs.Common.{map, Some, refl, sym, ap, ◌∙◌, arith, sum_by, Contains}
+use Rattle.std.proofs.Common.{◌≡◌, ◌⊎◌, inl, inr, ◌+◌, List, [], ◌∷◌, ◌++◌}
+use Rattle.std.proofs.Common.{Some, ap, ◌∙◌, arith, Contains}
 use Rattle.std.specs.List.{AllZip}
 use Rattle.std.specs.Prelude.{◌≤◌}
-use Rattle.std.proofs.lemmas.List.Sums.{sum_by-cons}
-use Rattle.node_key.specs.Stakes.{Exchanges, same_stake, times}
+use Rattle.node_key.specs.Stakes.{Exchanges, times}
 use Rattle.node_key.specs.declared.stake.Stake.{Stake}
 use Rattle.node_key.proofs.StakeLaws.{times-append}
 use Rattle.shard_core.specs.Room.{Room}
@@ -17,13 +16,6 @@ use Rattle.node_store.specs.Kept.{KeepsFor, NodesKept}
 
 pub times_first : (x y : Stake) (ys : List Stake) → times x (y ∷ ys) ≡ times x (y ∷ []) + times x ys
 times_first x y ys = times-append x (y ∷ []) ys
-
-pub times_of : {X : Type 0} (x : Stake) (f : X → Stake) (xs : List X)
-    → times x (map f xs) ≡ sum_by (λ y. cond (same_stake x (f y)) 1 0) xs
-times_of x f [] = refl
-times_of x f (y ∷ ys) = sum_by-cons (λ (z : Stake). cond (same_stake x z) 1 0) (f y) (map f ys) ∙ ap
-    (λ n. cond (same_stake x (f y)) 1 0 + n) (times_of x f ys) ∙ sym
-    (sum_by-cons (λ z. cond (same_stake x (f z)) 1 0) y ys)
 
 -- stakes in another order
 store_same : (rooms : Store) (held left : List Stake) → Exchanges held left [] [] → IsStore rooms held

@@ -1,23 +1,20 @@
 -- The words of a history that don't look into what is published say the same with trees in place of roots.
-use Rattle.std.proofs.Common.{◌≡◌, ℕ, ◌+◌, ◌||◌, ◌&&◌, not, Bool, true, false, cond, eqb, suc, List, [], ◌∷◌}
-use Rattle.std.proofs.Common.{length, map, filter, Option, None, Some, refl, sym, ap, ap₂, ◌∙◌, arith}
-use Rattle.std.specs.Prelude.{is_some, slice_get, IsSome}
+use Rattle.std.proofs.Common.{◌≡◌, ℕ, ◌+◌, ◌||◌, ◌&&◌, not, Bool, cond, eqb, List, [], ◌∷◌}
+use Rattle.std.proofs.Common.{length, map, filter, Option, refl, sym, ap, ap₂, ◌∙◌}
+use Rattle.std.specs.Prelude.{slice_get, IsSome}
 use Rattle.std.specs.List.{list_any, filter_map, cons_option}
 use Rattle.std.specs.Option.{option_map, option_map_or}
-use Rattle.std.proofs.Math.Path.{fun_ext}
 use Rattle.std.proofs.lemmas.Option.{slice_get-map}
 use Rattle.list_lemmas.proofs.Fronts.{length-cond}
 use Rattle.list_lemmas.proofs.Maps.{map_agree_at}
-use Rattle.list_lemmas.proofs.Options.{cons_option-map, is_some-map, option_map-cond}
+use Rattle.list_lemmas.proofs.Options.{cons_option-map, option_map-cond}
 use Rattle.trace_base.specs.declared.names.TraceInfo.{TraceInfo}
 use Rattle.hall_history.specs.History.{EntryOf, Opened, Published, Sealed, Dropped, Closed, Asked, opened_id}
 use Rattle.hall_history.specs.History.{info_opened, published_as, publishes, seals, ends, opened_ids, info_of}
 use Rattle.hall_history.specs.History.{published_of, is_open, tracks_of, published_count}
-use Rattle.hall_history.specs.Left.{published_if, open_published}
 use Rattle.node_key.specs.Stands.{KeyAt}
 use Rattle.node_store.specs.TreeUnder.{tree_under}
-use Rattle.plain_hall.specs.Orderly.{IsOrderly}
-use Rattle.plain_hall.specs.Rooted.{told_by, tree_of_root, with_trees, root_stake, root_stakes, NamesNode}
+use Rattle.plain_hall.specs.Rooted.{told_by, tree_of_root, with_trees, NamesNode}
 use Rattle.plain_hall.specs.Rooted.{NameNodes}
 use Rattle.plain_hall.specs.declared.root.Root.{Root}
 
@@ -74,15 +71,6 @@ published_as-told f id track (Sealed other) = refl
 published_as-told f id track (Dropped other) = refl
 published_as-told f id track (Closed other) = refl
 published_as-told f id track Asked = refl
-
-published_if-told : {X Y : Type 0} (f : X → Y) (test : ℕ → Bool) (e : EntryOf X)
-    → published_if test (told_by f e) ≡ option_map f (published_if test e)
-published_if-told f test (Published id track what) = option_map-cond f (test id) what
-published_if-told f test (Opened id info) = refl
-published_if-told f test (Sealed id) = refl
-published_if-told f test (Dropped id) = refl
-published_if-told f test (Closed id) = refl
-published_if-told f test Asked = refl
 
 -- ---- what is so after some entries
 
@@ -156,36 +144,6 @@ pub published_count-told : {X Y : Type 0} (f : X → Y) (entries : List (EntryOf
 unfolding published_count
 published_count-told f entries id = told_count f (publishes id) (publishes id) entries (publishes-told f id)
 
-pub open_published-told : {X Y : Type 0} (f : X → Y) (entries : List (EntryOf X))
-    → open_published (map (told_by f) entries) ≡ map f (open_published entries)
-unfolding open_published
-open_published-told f entries = ap (λ test. filter_map (published_if test) (map (told_by f) entries))
-    (fun_ext (is_open-told f entries)) ∙ told_values f (published_if (is_open entries))
-    (published_if (is_open entries)) entries (published_if-told f (is_open entries))
-
--- a history is orderly if it is with trees
-pub orderly_untold : {X Y : Type 0} (f : X → Y) (entries : List (EntryOf X)) → IsOrderly (map (told_by f) entries)
-    → IsOrderly entries
-orderly_untold f entries was =
-    let ids = opened_ids-told f entries in
-    let count = ap length ids in
-    record {
-      ids = sym ids ∙ was.ids ∙ ap (λ n. Rattle.std.specs.List.range_with_len 1 n) count;
-      unborn = λ id above.
-          let none = was.unborn id (omega (arith, above, count)) in
-          record {
-            info = ap is_some (sym (info_of-told f entries id)) ∙ none.info;
-            ended = sym (ended-told f entries id) ∙ none.ended;
-            sealed = sym (sealed-told f entries id) ∙ none.sealed;
-          };
-      counted = λ id. omega
-          (arith, was.counted id, tracks_of-told f entries id, published_count-told f entries id);
-      in_order = λ id track. sym (ap is_some (published_of-told f entries id track) ∙ is_some-map f
-          (published_of entries id track)) ∙ was.in_order id track ∙ ap
-          (λ n. Rattle.std.specs.Prelude.nat_lt track n)
-          (published_count-told f entries id);
-    }
-
 -- ---- with other keys
 
 -- the keys stand for the same trees, as far as these go
@@ -211,32 +169,3 @@ pub with_trees-same : (before after : KeyAt) (entries : List (EntryOf Root)) →
     → NameNodes before entries → with_trees after entries ≡ with_trees before entries
 with_trees-same before after entries same there = map_agree_at _ _ entries
     (λ k e at. same_entry before after e same (there k e at))
-
-same_stakes : (before after : KeyAt) (test : ℕ → Bool) (entries : List (EntryOf Root)) → SameTrees before after
-    → NameNodes before entries → map (root_stake after) (filter_map (published_if test) entries)
-    ≡ map (root_stake before) (filter_map (published_if test) entries)
-same_stakes before after test [] same there = refl
-same_stakes before after test (Published id track r ∷ entries) same there =
-    let rest = same_stakes before after test entries same (λ k e at. there (suc k) e at) in
-    let here : root_stake after r ≡ root_stake before r =
-    λ i. record { number = r.node; tree = same r.node (there 0 (Published id track r) refl) i } in
-    elim (test id) as (λ b. map (root_stake after) (cons_option (cond b (Some r) None)
-    (filter_map (published_if test) entries)) ≡ map (root_stake before)
-    (cons_option (cond b (Some r) None) (filter_map (published_if test) entries)))
-    [ true ↦ ap₂ ◌∷◌ here rest | false ↦ rest ]
-same_stakes before after test (Opened id info ∷ entries) same there = same_stakes before after test entries same
-    (λ k e at. there (suc k) e at)
-same_stakes before after test (Sealed id ∷ entries) same there = same_stakes before after test entries same
-    (λ k e at. there (suc k) e at)
-same_stakes before after test (Dropped id ∷ entries) same there = same_stakes before after test entries same
-    (λ k e at. there (suc k) e at)
-same_stakes before after test (Closed id ∷ entries) same there = same_stakes before after test entries same
-    (λ k e at. there (suc k) e at)
-same_stakes before after test (Asked ∷ entries) same there = same_stakes before after test entries same
-    (λ k e at. there (suc k) e at)
-
--- and so are the stakes on roots
-pub root_stakes-same : (before after : KeyAt) (entries : List (EntryOf Root)) → SameTrees before after
-    → NameNodes before entries → root_stakes after entries ≡ root_stakes before entries
-unfolding open_published
-root_stakes-same before after entries same there = same_stakes before after (is_open entries) entries same there

@@ -1,40 +1,32 @@
--- What each call leaves of the facts that a plain hall keeps.
-use Rattle.std.proofs.Common.{◌≡◌, ℕ, ◌+◌, ◌-◌, ◌<◌, true, cond, List, [], ◌∷◌, ◌++◌, length}
-use Rattle.std.proofs.Common.{map, Option, None, Some, refl, sym, ap, ◌∙◌, subst, arith, inl, inr}
-use Rattle.std.specs.Prelude.{slice_get, is_some, IsSome}
-use Rattle.std.proofs.Math.Path.{fun_ext}
-use Rattle.std.proofs.lemmas.List.{append-nil, map-append}
-use mathlib.Core.Bool.{or-false}
-use Rattle.list_lemmas.proofs.Found.{any_more}
+-- What each call leaves of what holds of a plain hall.
+use Rattle.std.proofs.Common.{◌≡◌, List, [], ◌∷◌, ◌++◌, Option, None, Some, refl, sym, ap, ◌∙◌, subst}
+use Rattle.std.proofs.Common.{arith, inl, inr, true}
+use Rattle.std.specs.Prelude.{slice_get, is_some}
+use Rattle.std.proofs.lemmas.List.{map-append}
 use Rattle.list_lemmas.proofs.Positions.{last_or_before}
-use Rattle.trace_base.specs.Info.{IsLegalInfo}
-use Rattle.trace_base.specs.declared.limits.TheConstants.{MAX_OPEN_TRACES}
-use Rattle.trace_base.specs.declared.names.TraceInfo.{TraceInfo}
-use Rattle.hall_history.proofs.HistoryMore.{data_asked, fate_asked, fate_published, open_same, opened_more}
-use Rattle.hall_trait.specs.Answers.{HasRoom, places_of_load}
-use Rattle.hall_history.specs.History.{Entry, EntryOf, Opened, Published, Sealed, Dropped, Asked, opened_ids}
-use Rattle.hall_history.specs.History.{ends, is_loading, is_open, published_count, tracks_of, IsTrackTree}
-use Rattle.hall_history.specs.Left.{open_published}
-use Rattle.node_key.specs.Stakes.{same_stake, times}
-use Rattle.node_key.specs.declared.stake.Stake.{Stake}
+use Rattle.hall_history.proofs.Legal.{legal_more}
+use Rattle.hall_history.specs.History.{Entry, EntryOf, IsLegalHistory, MayFollow}
+use Rattle.hall_history.specs.History.{Opened, Published, Sealed, Dropped, Closed, Asked}
+use Rattle.hall_history.specs.declared.asks.AskIds.{AskIds}
 use Rattle.node_key.specs.Stands.{KeyAt}
 use Rattle.node_key.specs.declared.key.NodeKey.{NodeKey}
-use Rattle.hall_history.proofs.HistoryFronts.{loading_open}
-use Rattle.node_key.proofs.StakeLaws.{times-append}
-use Rattle.node_store.proofs.TreesUnder.{tree_still}
+use Rattle.node_key.specs.declared.stake.Stake.{Stake}
+use Rattle.node_store.proofs.TreesUnder.{stands_still, tree_still}
 use Rattle.node_store.specs.Given.{ever}
 use Rattle.node_store.specs.Kept.{AreKept, KeepsFor, KeepsNumbers, NodesKept}
-use Rattle.plain_hall.specs.Kept.{IsKept}
-use Rattle.plain_hall.specs.Rooted.{NamesNode, NameNodes, root_stake, root_stakes, told_by, tree_of_root}
-use Rattle.plain_hall.specs.Rooted.{with_trees}
-use Rattle.plain_hall.specs.Spots.{all_published}
-use Rattle.plain_hall.specs.Whole.{IsSoundHall}
+use Rattle.registry_core.proofs.StandsStarted.{stands-started}
+use Rattle.registry_core.proofs.ToldTracks.{stands_with_more}
+use Rattle.registry_core.specs.Registry.{RegistryValue, new_registry}
+use Rattle.registry_core.specs.Roots.{roots_kept}
+use Rattle.registry_core.specs.Standing.{AreTrees, StandsFor}
+use Rattle.registry_core.specs.UsedBy.{AreUsedBy}
+use Rattle.plain_hall.specs.Orderly.{IsOrderly}
+use Rattle.plain_hall.specs.Rooted.{NamesNode, NameNodes, stakes_under, told_by, tree_of_root, with_trees}
+use Rattle.plain_hall.specs.Whole.{IsSoundHall, at_first}
 use Rattle.plain_hall.specs.declared.root.Root.{Root}
-use Rattle.plain_hall.proofs.Keeping.{keeps_same, times_first, times_of}
-use Rattle.plain_hall.proofs.OpenRoots.{open_dropped, open_opened, open_published-more, same_open}
-use Rattle.plain_hall.proofs.Passes.{dropped_closed, open_same_by, opened_opens, promise_of}
-use Rattle.plain_hall.proofs.Steps.{kept_asked, kept_dropped, kept_none, kept_opened, kept_published, kept_sealed}
-use Rattle.plain_hall.proofs.Told.{SameTrees, is_open-told, orderly_untold, root_stakes-same, with_trees-same}
+use Rattle.plain_hall.proofs.Legal.{IsInTurn, orderly_more, orderly_none}
+use Rattle.plain_hall.proofs.RootStakes.{roots_still}
+use Rattle.plain_hall.proofs.Told.{SameTrees, with_trees-same}
 
 -- one entry more
 
@@ -51,135 +43,57 @@ numbered_more key_at old new e seen here were k x at = elim (last_or_before old 
       | inr last ↦ let P : EntryOf Root → Type 0 = λ y. NamesNode key_at y in subst P (sym last.1) here
     ]
 
--- the roots of open traces stay
-roots_stay : (s : NodesKept) (old new : List (EntryOf Root)) (e : EntryOf Root) → new ≡ old ++ e ∷ []
-    → open_published (old ++ e ∷ []) ≡ open_published old → KeepsFor s (root_stakes (ever s.given) old)
-    → KeepsFor s (root_stakes (ever s.given) new)
-roots_stay s old new e seen same = subst (λ (rs : List Root). KeepsFor s (map (root_stake (ever s.given)) rs))
-    (sym (ap open_published seen ∙ same))
-
-pub whole_asked : (s : NodesKept) (old new : List (EntryOf Root)) (owed live : ℕ) → new ≡ old ++ Asked ∷ []
-    → HasRoom (with_trees (ever s.given) old) 1 → IsSoundHall s old owed live → IsSoundHall s new owed live
-whole_asked s old new owed live seen room was =
-    let opens : is_open (old ++ Asked ∷ []) ≡ is_open old =
-    fun_ext (λ id. open_same old (old ++ Asked ∷ []) id (data_asked old id) (fate_asked old id)) in
+-- the registry and the store go on with the entry
+pub whole_entry : (s t : NodesKept) (r q : RegistryValue) (old new : List (EntryOf Root)) (e : EntryOf Root)
+    (before after : List AskIds) → new ≡ old ++ e ∷ []
+    → MayFollow (with_trees (ever s.given) old) (told_by (tree_of_root (ever s.given)) e)
+    → IsInTurn (with_trees (ever s.given) old) (told_by (tree_of_root (ever s.given)) e)
+    → StandsFor (AreTrees (ever s.given)) at_first q
+    (with_trees (ever s.given) old ++ told_by (tree_of_root (ever s.given)) e ∷ [])
+    → AreUsedBy q.traces after → ever t.given ≡ ever s.given → AreKept t
+    → KeepsFor t (stakes_under (ever s.given) (roots_kept q.traces)) → NamesNode (ever s.given) e
+    → IsSoundHall s r old before → IsSoundHall t q new after
+whole_entry s t r q old new e before after seen may turn stands used same kept keeps named was =
+    let told = sym (seen_more (ever s.given) old new e seen) in
+    let Legal : KeyAt → Type 0 = λ k. IsLegalHistory (with_trees k new) in
+    let Orderly : KeyAt → Type 0 = λ k. IsOrderly (with_trees k new) in
+    let Standing : KeyAt → Type 0 = λ k. StandsFor (AreTrees k) at_first q (with_trees k new) in
+    let Keeping : KeyAt → Type 0 = λ k. KeepsFor t (stakes_under k (roots_kept q.traces)) in
+    let Named : KeyAt → Type 0 = λ k. NameNodes k new in
     record {
-      kept = kept_asked _ _ owed live (seen_more (ever s.given) old new Asked seen) room was.kept;
-      store = was.store;
-      roots = roots_stay s old new Asked seen (same_open old Asked opens refl) was.roots;
-      numbered = numbered_more (ever s.given) old new Asked seen tt was.numbered;
-    }
-
-pub whole_opened : (s : NodesKept) (old new : List (EntryOf Root)) (owed live id : ℕ) (info : TraceInfo)
-    → new ≡ old ++ Opened id info ∷ [] → id ≡ length (opened_ids old) + 1 → IsLegalInfo info
-    → live < MAX_OPEN_TRACES → HasRoom (with_trees (ever s.given) old) (places_of_load info)
-    → IsSoundHall s old owed live → IsSoundHall s new (owed + (length info.names.tracks + 1)) (live + 1)
-whole_opened s old new owed live id info seen next legal few room was =
-    let orderly = orderly_untold (tree_of_root (ever s.given)) old was.kept.orderly in
-    let ids = ap (λ (is : List ℕ). length is) (Rattle.plain_hall.proofs.Told.opened_ids-told
-    (tree_of_root (ever s.given)) old) in
-    let none : published_count old id ≡ 0 =
-    Rattle.plain_hall.proofs.Passes.unpublished_yet old id info orderly next in
-    record {
-      kept = kept_opened _ _ owed live id info (seen_more (ever s.given) old new (Opened id info) seen)
-          (omega (arith, next, ids)) legal few room was.kept;
-      store = was.store;
-      roots = roots_stay s old new (Opened id info) seen (open_opened old id info none) was.roots;
-      numbered = numbered_more (ever s.given) old new (Opened id info) seen tt was.numbered;
-    }
-
-pub whole_sealed : (s : NodesKept) (old new : List (EntryOf Root)) (owed live id : ℕ)
-    → new ≡ old ++ Sealed id ∷ [] → is_loading (with_trees (ever s.given) old) id ≡ true
-    → published_count (with_trees (ever s.given) old) id ≡ tracks_of (with_trees (ever s.given) old) id
-    → IsSoundHall s old owed live → IsSoundHall s new (owed - 1) live
-whole_sealed s old new owed live id seen loading all was =
-    let ids : opened_ids (old ++ Sealed id ∷ []) ≡ opened_ids old = opened_more old (Sealed id) ∙ append-nil _
-    in
-    let opens : is_open (old ++ Sealed id ∷ []) ≡ is_open old =
-    fun_ext (λ x. open_same_by old _ x ids (any_more (ends x) old (Sealed id) ∙ or-false _)) in
-    record {
-      kept = kept_sealed _ _ owed live id (seen_more (ever s.given) old new (Sealed id) seen) loading all was.kept;
-      store = was.store;
-      roots = roots_stay s old new (Sealed id) seen (same_open old (Sealed id) opens refl) was.roots;
-      numbered = numbered_more (ever s.given) old new (Sealed id) seen tt was.numbered;
-    }
-
--- a stake of the owner becomes that on a root
-pub whole_published : (s t : NodesKept) (old new : List (EntryOf Root)) (owed live id track : ℕ) (r : Root)
-    → new ≡ old ++ Published id track r ∷ [] → ever t.given ≡ ever s.given → AreKept t
-    → is_loading (with_trees (ever s.given) old) id ≡ true
-    → IsTrackTree (with_trees (ever s.given) old) id track (tree_of_root (ever s.given) r)
-    → track ≡ published_count (with_trees (ever s.given) old) id → IsSome (ever s.given r.node)
-    → KeepsFor t (root_stake (ever s.given) r ∷ root_stakes (ever s.given) old) → IsSoundHall s old owed live
-    → IsSoundHall t new (owed - 1) live
-whole_published s t old new owed live id track r seen same kept loading fits turn named keeps was =
-    let key_at = ever s.given in
-    let added = old ++ Published id track r ∷ [] in
-    let ids : opened_ids added ≡ opened_ids old = opened_more old (Published id track r) ∙ append-nil _ in
-    let opens : is_open added ≡ is_open old =
-    fun_ext (λ x. open_same_by old added x ids (fate_published old id track r x).ended) in
-    let on : is_open old id ≡ true = sym (is_open-told (tree_of_root key_at) old id) ∙ loading_open _ id loading
-    in
-    let stakes : root_stakes key_at new ≡ root_stakes key_at old ++ root_stake key_at r ∷ [] =
-    ap (root_stakes key_at) seen ∙ ap (map (root_stake key_at)) (open_published-more old id track r opens on) ∙
-    map-append (root_stake key_at) (open_published old) (r ∷ []) in
-    let roots : KeepsFor t (root_stakes key_at new) =
-    keeps_same t (root_stake key_at r ∷ root_stakes key_at old) (root_stakes key_at new) (λ x. omega (
-      arith,
-      times_first x (root_stake key_at r) (root_stakes key_at old),
-      times-append x (root_stakes key_at old) (root_stake key_at r ∷ []),
-      ap (times x) stakes,
-    )) keeps in
-    let P : KeyAt → Type 0 = λ k. IsKept (with_trees k new) (owed - 1) live in
-    let Q : KeyAt → Type 0 = λ k. KeepsFor t (root_stakes k new) in
-    let R : KeyAt → Type 0 = λ k. NameNodes k new in
-    record {
-      kept = subst P (sym same) (kept_published _ _ owed live id track (tree_of_root key_at r)
-          (seen_more key_at old new (Published id track r) seen) loading fits turn was.kept);
+      legal = subst Legal (sym same) (subst (λ (es : List Entry). IsLegalHistory es) told
+          (legal_more _ _ was.legal may));
+      orderly = subst Orderly (sym same) (subst (λ (es : List Entry). IsOrderly es) told
+          (orderly_more _ _ was.orderly may turn));
+      stands = subst Standing (sym same)
+          (subst (λ (es : List Entry). StandsFor (AreTrees (ever s.given)) at_first q es) told stands);
+      used = used;
       store = kept;
-      roots = subst Q (sym same) roots;
-      numbered = subst R (sym same) (numbered_more key_at old new (Published id track r) seen named
-          was.numbered);
+      roots = subst Keeping (sym same) keeps;
+      numbered = subst Named (sym same) (numbered_more (ever s.given) old new e seen named was.numbered);
     }
 
--- the stakes on the roots of a loading trace, and on those that stay when it is dropped
-pub roots_apart : (s : NodesKept) (old new : List (EntryOf Root)) (id : ℕ) → new ≡ old ++ Dropped id ∷ []
-    → is_loading (with_trees (ever s.given) old) id ≡ true → KeepsFor s (root_stakes (ever s.given) old)
-    → KeepsFor s (map (root_stake (ever s.given)) (all_published old id) ++ root_stakes (ever s.given) new)
-roots_apart s old new id seen loading =
-    let key_at = ever s.given in
-    let on : is_open old id ≡ true = sym (is_open-told (tree_of_root key_at) old id) ∙ loading_open _ id loading
-    in
-    keeps_same s _ _ (λ x.
-    let t : Root → ℕ = λ r. cond (same_stake x (root_stake key_at r)) 1 0 in
-    omega (
-      arith,
-      times_of x (root_stake key_at) (open_published old),
-      times_of x (root_stake key_at) (all_published old id),
-      times_of x (root_stake key_at) (open_published (old ++ Dropped id ∷ [])),
-      ap (λ es. times x (root_stakes key_at es)) seen,
-      times-append x (map (root_stake key_at) (all_published old id)) (root_stakes key_at new),
-      open_dropped t old id on (dropped_closed old id),
-    ))
-
-pub whole_dropped : (s t : NodesKept) (old new : List (EntryOf Root)) (owed live id : ℕ)
-    → new ≡ old ++ Dropped id ∷ [] → t.given ≡ s.given → AreKept t
-    → is_loading (with_trees (ever s.given) old) id ≡ true → KeepsFor t (root_stakes (ever s.given) new)
-    → IsSoundHall s old owed live
-    → IsSoundHall t new (owed - promise_of (with_trees (ever s.given) old) id) (live - 1)
-whole_dropped s t old new owed live id seen same kept loading keeps was =
-    let key_at = ever s.given in
-    let keys : ever t.given ≡ key_at = ap ever same in
-    let P : KeyAt → Type 0 = λ k. IsKept (with_trees k new) (owed - promise_of (with_trees key_at old) id)
-    (live - 1) in
-    let Q : KeyAt → Type 0 = λ k. KeepsFor t (root_stakes k new) in
-    let R : KeyAt → Type 0 = λ k. NameNodes k new in
+-- they go on without an entry
+pub whole_back : (s t : NodesKept) (r q : RegistryValue) (entries : List (EntryOf Root))
+    (before after : List AskIds)
+    → StandsFor (AreTrees (ever s.given)) at_first q (with_trees (ever s.given) entries)
+    → AreUsedBy q.traces after → ever t.given ≡ ever s.given → AreKept t
+    → KeepsFor t (stakes_under (ever s.given) (roots_kept q.traces)) → IsSoundHall s r entries before
+    → IsSoundHall t q entries after
+whole_back s t r q entries before after stands used same kept keeps was =
+    let Legal : KeyAt → Type 0 = λ k. IsLegalHistory (with_trees k entries) in
+    let Orderly : KeyAt → Type 0 = λ k. IsOrderly (with_trees k entries) in
+    let Standing : KeyAt → Type 0 = λ k. StandsFor (AreTrees k) at_first q (with_trees k entries) in
+    let Keeping : KeyAt → Type 0 = λ k. KeepsFor t (stakes_under k (roots_kept q.traces)) in
+    let Named : KeyAt → Type 0 = λ k. NameNodes k entries in
     record {
-      kept = subst P (sym keys) (kept_dropped _ _ owed live id (seen_more key_at old new (Dropped id) seen)
-          loading was.kept);
+      legal = subst Legal (sym same) was.legal;
+      orderly = subst Orderly (sym same) was.orderly;
+      stands = subst Standing (sym same) stands;
+      used = used;
       store = kept;
-      roots = subst Q (sym keys) keeps;
-      numbered = subst R (sym keys) (numbered_more key_at old new (Dropped id) seen tt was.numbered);
+      roots = subst Keeping (sym same) keeps;
+      numbered = subst Named (sym same) was.numbered;
     }
 
 -- ---- the store goes on, and keeps its numbers
@@ -204,39 +118,55 @@ still_named s t (Published id track r) keeps there = go (ever s.given r.node) re
 still_named s t (Opened id info) keeps there = tt
 still_named s t (Sealed id) keeps there = tt
 still_named s t (Dropped id) keeps there = tt
-still_named s t (Rattle.hall_history.specs.History.Closed id) keeps there = tt
+still_named s t (Closed id) keeps there = tt
 still_named s t Asked keeps there = tt
 
-pub seen_still : (s t : NodesKept) (entries : List (EntryOf Root)) (owed live : ℕ) → KeepsNumbers s t
-    → IsSoundHall s entries owed live → with_trees (ever t.given) entries ≡ with_trees (ever s.given) entries
-seen_still s t entries owed live keeps was =
+pub seen_still : (s t : NodesKept) (r : RegistryValue) (entries : List (EntryOf Root))
+    (queries : List AskIds) → KeepsNumbers s t → IsSoundHall s r entries queries
+    → with_trees (ever t.given) entries ≡ with_trees (ever s.given) entries
+seen_still s t r entries queries keeps was =
     with_trees-same (ever s.given) (ever t.given) entries (same_trees s t was.store keeps) was.numbered
 
-pub whole_still : (s t : NodesKept) (entries : List (EntryOf Root)) (owed live : ℕ) → KeepsNumbers s t → AreKept t
-    → ((others : List Stake) → KeepsFor s others → KeepsFor t others) → IsSoundHall s entries owed live
-    → IsSoundHall t entries owed live
-whole_still s t entries owed live keeps kept on was =
-    let P : List Entry → Type 0 = λ es. IsKept es owed live in
+pub whole_still : (s t : NodesKept) (r : RegistryValue) (entries : List (EntryOf Root))
+    (queries : List AskIds) → KeepsNumbers s t → AreKept t
+    → ((others : List Stake) → KeepsFor s others → KeepsFor t others) → IsSoundHall s r entries queries
+    → IsSoundHall t r entries queries
+whole_still s t r entries queries keeps kept on was =
+    let same = sym (seen_still s t r entries queries keeps was) in
     record {
-      kept = subst P (sym (seen_still s t entries owed live keeps was)) was.kept;
+      legal = subst (λ (es : List Entry). IsLegalHistory es) same was.legal;
+      orderly = subst (λ (es : List Entry). IsOrderly es) same was.orderly;
+      stands = subst (λ (es : List Entry). StandsFor (AreTrees (ever t.given)) at_first r es) same
+          (stands_with_more (AreTrees (ever s.given)) (AreTrees (ever t.given)) at_first r
+          (with_trees (ever s.given) entries) (λ from root p is. (
+            is.0,
+            stands_still (ever s.given) (ever t.given) keeps root p.tree is.1,
+          )) was.stands);
+      used = was.used;
       store = kept;
-      roots = subst (KeepsFor t) (sym (root_stakes-same (ever s.given) (ever t.given) entries
-          (same_trees s t was.store keeps) was.numbered)) (on _ was.roots);
+      roots = subst (KeepsFor t) (sym (roots_still s t (roots_kept r.traces) was.store keeps was.roots))
+          (on _ was.roots);
       numbered = λ k e at. still_named s t e keeps (was.numbered k e at);
     }
 
 pub same_numbers : (s t : NodesKept) → ever t.given ≡ ever s.given → KeepsNumbers s t
 same_numbers s t same n key at = ap (λ (k : KeyAt). k n) same ∙ at
 
-pub whole_none : (s : NodesKept) (entries : List (EntryOf Root)) → entries ≡ [] → AreKept s → KeepsFor s []
-    → IsSoundHall s entries 0 0
-unfolding open_published
-whole_none s entries none kept keeps = record {
-  kept = kept_none _ (ap (with_trees (ever s.given)) none);
-  store = kept;
-  roots = subst (λ (es : List (EntryOf Root)). KeepsFor s (root_stakes (ever s.given) es)) (sym none) keeps;
-  numbered = λ k e at. absurd (nowhere e (sym (ap (λ es. slice_get es k) none) ∙ at));
-}
-  where
-    nowhere : (e : EntryOf Root) → ◌≡◌ {A = Option (EntryOf Root)} None (Some e) → ⊥
-    nowhere e is = cc
+-- ---- at first
+
+pub whole_none : (s : NodesKept) (r : RegistryValue) (entries : List (EntryOf Root)) → entries ≡ []
+    → r ≡ new_registry 0 1 → AreKept s → KeepsFor s [] → IsSoundHall s r entries []
+whole_none s r entries none fresh kept keeps =
+    subst (λ (q : RegistryValue). IsSoundHall s q entries []) (sym fresh)
+    (subst (λ (es : List (EntryOf Root)). IsSoundHall s (new_registry 0 1) es []) (sym none) (record {
+      legal = λ k e at. absurd cc;
+      orderly = orderly_none;
+      stands = stands-started (AreTrees (ever s.given)) 0 1 (omega arith) (omega arith) (omega arith);
+      used = record {
+        users = λ k d lt. absurd (omega (arith, lt));
+        kept = λ id named. absurd (omega (arith, named));
+      };
+      store = kept;
+      roots = keeps;
+      numbered = λ k e at. absurd cc;
+    }))

@@ -1,14 +1,8 @@
 -- How a plain hall keeps its history: a run of questions is kept as its length.
-use Rattle.std.specs.Prelude.{◌≡◌, ℕ, ◌+◌, ◌≤◌, List, [], ◌∷◌, ◌++◌, length, replicate}
+use Rattle.std.specs.Prelude.{ℕ, List, [], ◌∷◌, ◌++◌, replicate}
 use Rattle.std.specs.List.{flat_map}
 use Rattle.std.specs.Arc.{arc_value}
-use Rattle.std.proofs.Props.{props}
-use Rattle.trace_base.specs.declared.limits.TheConstants.{MAX_OPEN_TRACES, MAX_PLACES}
-use Rattle.hall_history.specs.History.{Entry, EntryOf, Opened, Published, Sealed, Dropped, Asked}
-use Rattle.hall_history.specs.History.{IsLegalHistory}
-use Rattle.hall_history.specs.History.{open_ids, promised}
-use Rattle.hall_trait.proofs.HistoryProps.{IsLegalHistory-prop}
-use Rattle.plain_hall.specs.Orderly.{IsOrderly}
+use Rattle.hall_history.specs.History.{EntryOf, Opened, Published, Sealed, Dropped, Asked}
 use Rattle.plain_hall.specs.declared.kept_entry.HistoryEntry.{HistoryEntry}
 use Rattle.plain_hall.specs.declared.kept_entry.HistoryEntry.TheVariants as kept
 use Rattle.plain_hall.specs.declared.kept_entry.KeptEntry.{KeptEntry}
@@ -28,16 +22,3 @@ block_of kept = replicate kept.asked Asked ++ entry_of kept.entry ∷ []
 -- the history that is kept, with so many questions at its end
 abbrev pub entries_of : List KeptEntry → ℕ → List (EntryOf Root)
 entries_of kept asked = flat_map block_of kept ++ replicate asked Asked
-
--- a legal history with these numbers of the places that are promised and of the traces that are open
-pub record IsKept (entries : List Entry) (owed live : ℕ) : Type 0 where
-  pub legal : IsLegalHistory entries
-  pub orderly : IsOrderly entries
-  pub promises : owed ≡ promised entries
-  pub held : live ≡ length (open_ids entries)
-  pub few : live ≤ MAX_OPEN_TRACES
-  pub fits : length entries + owed ≤ MAX_PLACES
-
--- there is at most one proof of it, which a ghost field asks for, and imports from specs/ alone
-pub IsKept-prop : (entries : List Entry) (owed live : ℕ) → IsProp (IsKept entries owed live)
-IsKept-prop entries owed live = hlevel (props, IsLegalHistory-prop)

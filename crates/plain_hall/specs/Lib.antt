@@ -1,5 +1,5 @@
-pub mod FoundHistory
 pub mod HallLaws
+pub mod Holding
 pub mod Kept
 pub mod KeptHistory
 pub mod Loading
@@ -7,6 +7,6 @@ pub mod Orderly
 pub mod PlainHall
 pub mod PlainSeat
 pub mod Rooted
-pub mod Spots
+pub mod StandsProps
 pub mod StoreProps
 pub mod Whole

@@ -4,14 +4,14 @@ use Rattle.std.specs.Option.{option_to_list}
 use Rattle.hall_history.specs.History.{Entry}
 use Rattle.hall_history.specs.Seat.{Seat}
 use Rattle.node_store.specs.Given.{ever, stakes_of}
-use Rattle.plain_hall.specs.FoundHistory.{entries}
+use Rattle.plain_hall.specs.KeptHistory.{history}
 use Rattle.plain_hall.specs.PlainSeat.{plain_seat, kept_view}
 use Rattle.plain_hall.specs.Rooted.{with_trees}
 use Rattle.plain_hall.specs.declared.hall.PlainHall.{PlainHall}
 
 -- its history
 abbrev pub seen_by : PlainHall → List Entry
-seen_by hall = with_trees (ever hall.nodes.given) (entries hall.past)
+seen_by hall = with_trees (ever hall.nodes.given) (history hall.past)
 
 -- its seat
 abbrev pub seat_of : PlainHall → Seat

@@ -1,6 +1,8 @@
 -- The seat of a hall with one owner.
-use Rattle.std.specs.Prelude.{◌≤◌, List, length, take, IsSome}
+use Rattle.std.specs.Prelude.{◌≤◌, List, Option, length, map, take, IsSome}
 use Rattle.std.specs.List.{range_with_len}
+use Rattle.std.specs.Option.{option_to_list}
+use Rattle.hall_history.specs.declared.asks.AskIds.{AskIds}
 use Rattle.hall_history.specs.History.{Entry, EntryOf, info_of}
 use Rattle.plain_hall.specs.Loading.{passes_of}
 use Rattle.hall_trait.specs.Pin.{first_id, second_id}
@@ -22,6 +24,10 @@ plain_seat stakes entries pins = record {
 -- the pin as the seat has it
 abbrev pub kept_view : KeptPin → PinView
 kept_view pin = record { ids = pin.ids; place = pin.place }
+
+-- the queries that run, of which there is one where a pin is out
+abbrev pub queries_of : Option KeptPin → List AskIds
+queries_of pin = map (λ (p : KeptPin). p.ids) (option_to_list pin)
 
 -- the pin's traces were opened by its place
 pub record IsHeld {X : Type 0} (entries : List (EntryOf X)) (pin : KeptPin) : Type 0 where

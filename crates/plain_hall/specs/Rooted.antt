@@ -2,7 +2,6 @@
 use Rattle.std.specs.Prelude.{◌≡◌, ℕ, List, map, slice_get, Some, IsSome}
 use Rattle.hall_history.specs.History.{Entry, EntryOf, Opened, Published, Sealed, Dropped, Closed, Asked}
 use Rattle.hall_history.specs.History.{PublishedTree}
-use Rattle.hall_history.specs.Left.{open_published}
 use Rattle.node_key.specs.Stakes.{stake}
 use Rattle.node_key.specs.declared.stake.Stake.{Stake}
 use Rattle.node_key.specs.Stands.{KeyAt}
@@ -26,13 +25,9 @@ tree_of_root key_at r = record { start = r.start; tree = tree_under key_at r.nod
 abbrev pub with_trees : KeyAt → List (EntryOf Root) → List Entry
 with_trees key_at entries = map (told_by (tree_of_root key_at)) entries
 
--- a reference to a root
-abbrev pub root_stake : KeyAt → Root → Stake
-root_stake key_at r = stake r.node (tree_under key_at r.node)
-
--- a reference to each root of the open traces
-abbrev pub root_stakes : KeyAt → List (EntryOf Root) → List Stake
-root_stakes key_at entries = map (root_stake key_at) (open_published entries)
+-- a reference to each of these numbers, with the tree that it stands for
+abbrev pub stakes_under : KeyAt → List ℕ → List Stake
+stakes_under key_at numbers = map (λ n. stake n (tree_under key_at n)) numbers
 
 -- if the entry names a root, a key is found under its number
 abbrev pub NamesNode : KeyAt → EntryOf Root → Type 0

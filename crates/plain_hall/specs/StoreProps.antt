@@ -73,7 +73,7 @@ KidsStand-prop key_at (n ∷ ns) (kid gap func dur inner more) = λ u v i. (
   KidsStand-prop key_at ns more u.1 v.1 i,
 )
 
-Stands-prop : (key_at : KeyAt) (n : ℕ) (t : Tree) → IsProp (Stands key_at n t)
+pub Stands-prop : (key_at : KeyAt) (n : ℕ) (t : Tree) → IsProp (Stands key_at n t)
 unfolding KeyStands
 Stands-prop key_at n t = KeyStands-prop key_at n t (λ ns. KidsStand-prop key_at ns t.kids)
 

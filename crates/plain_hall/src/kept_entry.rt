@@ -1,9 +1,3 @@
-ghost use Rattle.std.specs.Prelude.{◌≡◌};
-ghost use Rattle.std.specs.Arc.{arc_value};
-ghost use Rattle.std.specs.Option.{option_copied, option_map};
-ghost use Rattle.hall_history.specs.History.{ends, info_opened};
-ghost use Rattle.plain_hall.specs.Kept.{entry_of};
-
 use crate::root::Root;
 use std::alloc::Global;
 use std::sync::Arc;
@@ -27,24 +21,4 @@ pub enum HistoryEntry {
 pub struct KeptEntry {
     pub asked: u64,
     pub entry: HistoryEntry,
-}
-
-/// What the entry opens this trace with.
-pub fn info_in(entry: &HistoryEntry, id: u64) -> Option<&Arc<TraceInfo, Global>>
-    ensures { option_map arc_value (option_copied result) ≡ info_opened id (entry_of entry.now) }
-{
-    match entry {
-        HistoryEntry::Opened(other, info) if *other == id => Some(info),
-        _ => None,
-    }
-}
-
-/// Whether the entry ends the trace.
-pub fn ends_in(entry: &HistoryEntry, id: u64) -> bool
-    ensures { result ≡ ends id (entry_of entry.now) }
-{
-    match entry {
-        HistoryEntry::Dropped(other) => *other == id,
-        _ => false,
-    }
 }

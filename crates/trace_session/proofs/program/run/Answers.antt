@@ -43,6 +43,7 @@ returns-clause-batch g c = λ is begun.
     (record {
       held = g.O.Sink.held c.tell_left.new.output;
       faults = g.O.Faults.faults c.tell_left.new.output;
-    }) c.tell_left.result) c.left.ensures c.tell_left.ensures.told in
+    }) c.tell_left.result) (c.left.ensures.unpinned c.session-end.ensures.session.rest.no_pins)
+    c.tell_left.ensures.told in
     let cause = ends_by_cause end _ _ _ _ c.session-end.ensures.read_fault c.session-end.ensures.write_fault in
     (end, seat_of ended, ended.nodes.rooms, ended_at, session, cause, told)

@@ -1,131 +1,117 @@
-use Rattle.std.proofs.Common.{◌≡◌, ◌+◌, ◌-◌, ◌++◌, ◌∷◌, [], List, length, map, arith, ap, refl, subst, sym, ◌∙◌}
-use Rattle.std.proofs.lemmas.List.{length-map}
-use Rattle.hall_history.specs.History.{Dropped, EntryOf}
-use Rattle.hall_history.proofs.HistoryFronts.{loading_open}
-use Rattle.node_store.specs.Given.{Given, ever, stakes_of}
+use Rattle.std.proofs.Common.{◌∙◌, List, ℕ, ap, sym, subst, arith, refl}
+use Rattle.hall_history.specs.History.{Dropped}
+use Rattle.node_store.specs.Given.{Given, ever}
 use Rattle.node_store.specs.Kept.{KeepsFor}
-use Rattle.plain_hall.specs.FoundHistory.{entries}
+use Rattle.registry_core.specs.Loading.{EndsIn}
+use Rattle.registry_core.specs.Roots.{roots_kept}
+use Rattle.registry_core.specs.declared.answers.RegEnd.{RegEnd}
+use Rattle.registry_core.specs.declared.answers.RegEnd.TheVariants.{Ended, Kept}
+use Rattle.plain_hall.specs.KeptHistory.{history}
 use Rattle.plain_hall.specs.PlainHall.{seen_by}
-use Rattle.plain_hall.specs.Rooted.{root_stake, root_stakes, told_by, tree_of_root, with_trees}
-use Rattle.plain_hall.specs.declared.root.Root.{Root}
-use Rattle.plain_hall.proofs.Calls.{pass_facts, left_is_rest, load_entry}
+use Rattle.plain_hall.specs.Rooted.{stakes_under, with_trees}
+use Rattle.plain_hall.proofs.Calls.{load_entry, pass_facts}
 use Rattle.plain_hall.proofs.Found.{held_more}
-use Rattle.plain_hall.proofs.Legal.{open_within}
-use Rattle.plain_hall.proofs.Passes.{promise_of, dropped_ends}
-use Rattle.plain_hall.proofs.Steps.{owes, lives}
-use Rattle.plain_hall.proofs.Told.{opened_ids-told}
-use Rattle.plain_hall.proofs.WholeAfter.{roots_apart, seen_more, whole_dropped}
+use Rattle.plain_hall.proofs.Keeping.{nexts_same}
+use Rattle.plain_hall.proofs.LoadFacts.{last_place, loading_kept, owes}
+use Rattle.plain_hall.proofs.Passes.{dropped_ends}
+use Rattle.plain_hall.proofs.RootStakes.{keeps_taken}
+use Rattle.plain_hall.proofs.WholeAfter.{seen_more}
+use Rattle.plain_hall.proofs.WholeCalls.{ended_roots, fewer_promised, kept_roots, whole_dropped}
 use Rattle.plain_hall.proofs.hall.PlainHallHall.abandon.Goals as goal
 
-pub tracks-requires : goal.tracks-requires
-tracks-requires g c =
+pub push-requires : goal.push-requires
+push-requires g c =
     let was = c.args.self.now in
-    let facts = pass_facts _ was.owed was.live c.args.pass was.whole.kept c.requires.has in
-    let within = open_within _ c.args.pass.id was.whole.kept.orderly (loading_open _ c.args.pass.id facts.loading)
-    in (
-      within.0,
-      omega (arith, within.1, ap length (opened_ids-told (tree_of_root (ever was.nodes.given)) (entries was.past))),
+    let facts = pass_facts _ c.args.pass was.whole.orderly c.requires.has in
+    omega (arith, was.space, owes _ _ _ _ c.args.pass.id was.whole.stands was.whole.orderly facts.loading)
+
+pub abandon-requires : goal.abandon-requires
+abandon-requires g c =
+    let was = c.args.self.now in
+    let facts = pass_facts _ c.args.pass was.whole.orderly c.requires.has in
+    loading_kept _ _ _ _ c.args.pass.id was.whole.stands facts.loading
+
+pub release_roots-requires-clause-roots : goal.release_roots-requires-clause-roots
+release_roots-requires-clause-roots g c =
+    let was = c.args.self.now in
+    let id = c.args.pass.id in
+    let new = c.abandon.new.self in
+    let end : EndsIn was.registry id (Ended c.in-Ended.place c.in-Ended.roots) new =
+    subst (λ (o : RegEnd). EndsIn was.registry id o new) c.in-Ended.is c.abandon.ensures in (
+      stakes_under (ever was.nodes.given) (roots_kept new.traces),
+      keeps_taken was.nodes (ever was.nodes.given) (roots_kept was.registry.traces) (roots_kept new.traces)
+          c.in-Ended.roots (ended_roots was.registry new id c.in-Ended.place c.in-Ended.roots
+          was.whole.stands.sound end) was.whole.roots,
     )
-
-pub drop_roots-requires-clause-roots : goal.drop_roots-requires-clause-roots
-drop_roots-requires-clause-roots g c =
-    let was = c.args.self.now in
-    let facts = pass_facts _ was.owed was.live c.args.pass was.whole.kept c.requires.has in
-    let old = entries was.past in
-    let new = old ++ Dropped c.args.pass.id ∷ [] in
-    let rest = root_stakes (ever was.nodes.given) new in (
-      rest,
-      subst (λ (rs : List Root). KeepsFor was.nodes (map (root_stake (ever was.nodes.given)) rs ++ rest))
-          (sym c.tracks.ensures)
-          (roots_apart was.nodes old new c.args.pass.id refl facts.loading was.whole.roots),
-    )
-
-pub push_dropped-place-requires-clause-space : goal.push_dropped-place-requires-clause-space
-push_dropped-place-requires-clause-space g c =
-    let was = c.args.self.now in
-    let facts = pass_facts _ was.owed was.live c.args.pass was.whole.kept c.requires.has in
-    omega (arith, was.space, owes _ was.owed was.live c.args.pass.id was.whole.kept facts.loading)
-
-pub push_dropped-place-requires-clause-fits : goal.push_dropped-place-requires-clause-fits
-push_dropped-place-requires-clause-fits g c =
-    let was = c.args.self.now in
-    let facts = pass_facts _ was.owed was.live c.args.pass was.whole.kept c.requires.has in
-    omega (
-      arith,
-      was.whole.kept.fits,
-      length-map (entries was.past) (told_by (tree_of_root (ever was.nodes.given))),
-      owes _ was.owed was.live c.args.pass.id was.whole.kept facts.loading,
-    )
-
-pub push_dropped-place-requires-clause-given : goal.push_dropped-place-requires-clause-given
-push_dropped-place-requires-clause-given g c =
-    let was = c.args.self.now in
-    let facts = pass_facts _ was.owed was.live c.args.pass was.whole.kept c.requires.has in
-    let within = open_within _ c.args.pass.id was.whole.kept.orderly (loading_open _ c.args.pass.id facts.loading)
-    in (
-      within.0,
-      omega (arith, within.1, ap length (opened_ids-told (tree_of_root (ever was.nodes.given)) (entries was.past))),
-    )
-
-pub overflow_sub-self : goal.overflow_sub-self
-overflow_sub-self g c =
-    let was = c.args.self.now in
-    let facts = pass_facts _ was.owed was.live c.args.pass was.whole.kept c.requires.has in
-    omega (
-      arith,
-      c.from.ensures,
-      c.left-left.ensures,
-      left_is_rest _ c.args.pass facts,
-      owes _ was.owed was.live c.args.pass.id was.whole.kept facts.loading,
-    )
-
-pub overflow_sub-self-2 : goal.overflow_sub-self-2
-overflow_sub-self-2 g c =
-    let was = c.args.self.now in
-    let facts = pass_facts _ was.owed was.live c.args.pass was.whole.kept c.requires.has in
-    lives _ was.owed was.live c.args.pass.id was.whole.kept facts.loading
 
 pub invariant_of-self : goal.invariant_of-self
 invariant_of-self g c =
     let was = c.args.self.now in
     let id = c.args.pass.id in
-    let facts = pass_facts _ was.owed was.live c.args.pass was.whole.kept c.requires.has in
-    let owed = owes _ was.owed was.live id was.whole.kept facts.loading in
-    let left : c.from.result + 1 ≡ promise_of (seen_by was) id =
-    ap (λ n. n + 1) (c.from.ensures ∙ c.left-left.ensures ∙ left_is_rest _ c.args.pass facts) in
-    let key_at = ever was.nodes.given in
-    let nodes = c.drop_roots.new.nodes in
-    let old = entries was.past in
-    let new = old ++ Dropped id ∷ [] in
-    let rest = root_stakes key_at new in
-    let had : KeepsFor was.nodes (map (root_stake key_at) _ ++ rest) =
-    roots_apart was.nodes old new id refl facts.loading was.whole.roots in
-    let keeps : KeepsFor nodes rest = c.drop_roots.ensures.roots rest
-    (subst (λ (rs : List Root). KeepsFor was.nodes (map (root_stake key_at) rs ++ rest)) (sym c.tracks.ensures)
-    had) in
+    let new = c.abandon.new.self in
+    let facts = pass_facts _ c.args.pass was.whole.orderly c.requires.has in
+    let loads = loading_kept _ _ _ _ id was.whole.stands facts.loading in
+    let owed = owes _ _ _ _ id was.whole.stands was.whole.orderly facts.loading in
+    let end : EndsIn was.registry id (Ended c.in-Ended.place c.in-Ended.roots) new =
+    subst (λ (o : RegEnd). EndsIn was.registry id o new) c.in-Ended.is c.abandon.ensures in
+    let keeps = keeps_taken was.nodes (ever was.nodes.given) (roots_kept was.registry.traces)
+    (roots_kept new.traces) c.in-Ended.roots (ended_roots was.registry new id c.in-Ended.place
+    c.in-Ended.roots was.whole.stands.sound end) was.whole.roots in
+    let fewer = fewer_promised was.registry new id (Ended c.in-Ended.place c.in-Ended.roots) loads end
+    (omega (arith, owed)) in
     record {
-      whole = rw left (whole_dropped was.nodes nodes old _ was.owed was.live id c.push_dropped-place.ensures.seen
-          c.drop_roots.ensures.given c.drop_roots.ensures.store facts.loading
-          (subst (λ (es : List (EntryOf Root)). KeepsFor nodes (root_stakes key_at es))
-          (sym c.push_dropped-place.ensures.seen) keeps) was.whole);
-      space = c.push_dropped-place.ensures.space (was.owed - (c.from.result + 1))
-          (omega (arith, was.space, owed));
-      held = held_more _ _ _ was.pin c.push_dropped-place.ensures.seen was.held;
+      whole = whole_dropped was.nodes c.release_roots.new.nodes was.registry new (history was.past) _ id
+          (Ended c.in-Ended.place c.in-Ended.roots) _ c.push.ensures.seen loads end
+          (ap (λ (n : Given). ever n) c.release_roots.ensures.given) c.release_roots.ensures.store
+          (c.release_roots.ensures.roots _ keeps) was.whole;
+      space = c.push.ensures.space new.promised (omega (arith, was.space, fewer));
+      held = held_more _ _ _ was.pin c.push.ensures.seen was.held;
     }
 
-pub returns-clause-answer : goal.returns-clause-answer
-returns-clause-answer g c =
+pub invariant_of-self-in-Kept-1 : goal.invariant_of-self-in-Kept-1
+invariant_of-self-in-Kept-1 g c =
     let was = c.args.self.now in
-    let facts = pass_facts _ was.owed was.live c.args.pass was.whole.kept c.requires.has in
-    let new = entries c.push_dropped-place.new.self in
-    let same = ap (λ (n : Given). with_trees (ever n) new) c.drop_roots.ensures.given in
-    load_entry _ _ _ _ _ c.args.pass _ c.push_dropped-place.result
-    (same ∙ seen_more (ever was.nodes.given) _ _ (Dropped c.args.pass.id) c.push_dropped-place.ensures.seen)
-    (c.push_dropped-place.ensures.place ∙ sym (length-map _ _))
-    facts (dropped_ends _ c.args.pass.id was.whole.kept.orderly facts.loading).passes
+    let id = c.args.pass.id in
+    let new = c.abandon.new.self in
+    let facts = pass_facts _ c.args.pass was.whole.orderly c.requires.has in
+    let loads = loading_kept _ _ _ _ id was.whole.stands facts.loading in
+    let owed = owes _ _ _ _ id was.whole.stands was.whole.orderly facts.loading in
+    let end : EndsIn was.registry id (Kept c.in-Kept.place) new =
+    subst (λ (o : RegEnd). EndsIn was.registry id o new) c.in-Kept.is c.abandon.ensures in
+    let fewer = fewer_promised was.registry new id (Kept c.in-Kept.place) loads end (omega (arith, owed)) in
+    record {
+      whole = whole_dropped was.nodes was.nodes was.registry new (history was.past) _ id
+          (Kept c.in-Kept.place) _ c.push.ensures.seen loads end refl was.whole.store
+          (subst (λ (roots : List ℕ). KeepsFor was.nodes (stakes_under (ever was.nodes.given) roots))
+          (sym (kept_roots was.registry new id c.in-Kept.place end)) was.whole.roots) was.whole;
+      space = c.push.ensures.space new.promised (omega (arith, was.space, fewer));
+      held = held_more _ _ _ was.pin c.push.ensures.seen was.held;
+    }
 
-pub returns-clause-stakes : goal.returns-clause-stakes
-returns-clause-stakes g c = ap stakes_of c.drop_roots.ensures.given
+pub returns-in-Ended-clause-answer : goal.returns-in-Ended-clause-answer
+returns-in-Ended-clause-answer g c =
+    let was = c.args.self.now in
+    let id = c.args.pass.id in
+    let facts = pass_facts _ c.args.pass was.whole.orderly c.requires.has in
+    let end : EndsIn was.registry id (Ended c.in-Ended.place c.in-Ended.roots) c.abandon.new.self =
+    subst (λ (o : RegEnd). EndsIn was.registry id o c.abandon.new.self) c.in-Ended.is c.abandon.ensures in
+    let seen = ap (λ (n : Given). with_trees (ever n) (history c.push.new.self)) c.release_roots.ensures.given
+    ∙ seen_more (ever was.nodes.given) _ _ (Dropped id) c.push.ensures.seen in
+    load_entry _ _ _ _ _ c.args.pass _ c.in-Ended.place seen
+    (last_place _ _ (seen_by was) _ _ c.in-Ended.place was.whole.stands seen end.3) facts
+    (dropped_ends _ id was.whole.orderly facts.loading).passes
 
-pub returns-clause-nexts : goal.returns-clause-nexts
-returns-clause-nexts g c = c.drop_roots.ensures.next
+pub returns-in-Kept-clause-answer : goal.returns-in-Kept-clause-answer
+returns-in-Kept-clause-answer g c =
+    let was = c.args.self.now in
+    let id = c.args.pass.id in
+    let facts = pass_facts _ c.args.pass was.whole.orderly c.requires.has in
+    let end : EndsIn was.registry id (Kept c.in-Kept.place) c.abandon.new.self =
+    subst (λ (o : RegEnd). EndsIn was.registry id o c.abandon.new.self) c.in-Kept.is c.abandon.ensures in
+    let seen = seen_more (ever was.nodes.given) _ _ (Dropped id) c.push.ensures.seen in
+    load_entry _ _ _ _ _ c.args.pass _ c.in-Kept.place seen
+    (last_place _ _ (seen_by was) _ _ c.in-Kept.place was.whole.stands seen end.3) facts
+    (dropped_ends _ id was.whole.orderly facts.loading).passes
+
+pub returns-in-Kept-clause-nexts : goal.returns-in-Kept-clause-nexts
+returns-in-Kept-clause-nexts g c = nexts_same _
