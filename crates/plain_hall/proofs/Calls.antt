@@ -134,8 +134,7 @@ published_left old pass track s orderly next facts =
     let view : pass_of new pass.id ≡ pass_view (advanced pass) = same_view _ _ refl (sym facts.from) tracks
     (ap₂ state_at count tracks ∙ sym (ap (λ st. state_after st pass.to) next)) in
     subst (λ (view : PassView). Becomes (passes_of old) (passes_of new) (pass_of old pass.id) (view ∷ []))
-    view
-    more.passes
+    view more
 
 -- a question leaves the passes as they are
 pub asked_passes : (old new : List Entry) → new ≡ old ++ Asked ∷ [] → passes_of new ≡ passes_of old

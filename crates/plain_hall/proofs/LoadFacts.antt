@@ -1,5 +1,5 @@
 -- What the registry of a hall knows of a loading trace of its history.
-use Rattle.std.proofs.Common.{◌≡◌, ℕ, ◌+◌, ◌<◌, ◌≤◌, true, List, length, get_or, Option, None, Some, refl, sym, ap}
+use Rattle.std.proofs.Common.{◌-◌, cond, ◌≡◌, ℕ, ◌+◌, ◌<◌, ◌≤◌, true, List, length, get_or, Option, None, Some, refl, sym, ap}
 use Rattle.std.proofs.Common.{◌∙◌, arith, length-append, [], ◌∷◌, ◌++◌}
 use Rattle.std.specs.Prelude.{is_some, slice_get}
 use Rattle.std.proofs.lemmas.Option.{slice_get-get_or}
@@ -13,9 +13,10 @@ use Rattle.hall_history.specs.History.{Entry, EntryOf, is_loading, published_cou
 use Rattle.node_key.specs.Stands.{KeyAt}
 use Rattle.registry_core.proofs.FollowsRegistry.{loads_told, slots_told}
 use Rattle.registry_core.proofs.KeptTraces.{kept_id}
-use Rattle.registry_core.proofs.OneTrace.{kept-some}
+use Rattle.registry_core.proofs.OneTrace.{kept-some, sum-without}
 use Rattle.registry_core.specs.Loading.{AwaitsSeal, AwaitsTrack, IsLoadingTrace}
 use Rattle.registry_core.specs.Registry.{RegistryValue, kept_trace}
+use Rattle.registry_core.specs.Trace.{promise_of, published_tracks}
 use Rattle.registry_core.specs.Standing.{AreTrees, KeepsTrack, StandsFor, Start}
 use Rattle.registry_core.specs.declared.track_root.TrackRoot.{TrackRoot}
 use Rattle.plain_hall.specs.Orderly.{IsOrderly}
@@ -23,7 +24,6 @@ use Rattle.plain_hall.specs.Rooted.{told_by, tree_of_root}
 use Rattle.plain_hall.specs.Whole.{IsSoundHall, at_first}
 use Rattle.plain_hall.specs.declared.root.Root.{Root}
 use Rattle.plain_hall.proofs.Found.{not_published}
-use Rattle.plain_hall.proofs.Passes.{promise_of, sealed_ends}
 
 -- it keeps the trace, which is loading there
 pub loading_kept : (key_at : KeyAt) (start : Start) (r : RegistryValue) (entries : List Entry) (id : ℕ)
@@ -75,12 +75,19 @@ awaits_seal key_at start r entries id stands loading all =
           ∙ slots_told (AreTrees key_at) start r entries id t stands kept,
     )
 
--- places are promised to the trace
+-- a place is promised to the trace
 pub owes : (key_at : KeyAt) (start : Start) (r : RegistryValue) (entries : List Entry) (id : ℕ)
-    → StandsFor (AreTrees key_at) start r entries → IsOrderly entries → is_loading entries id ≡ true
-    → promise_of entries id ≤ r.promised
-owes key_at start r entries id stands orderly loading =
-    omega (arith, stands.promised, (sealed_ends entries id orderly loading).promises)
+    → StandsFor (AreTrees key_at) start r entries → is_loading entries id ≡ true → 1 ≤ r.promised
+owes key_at start r entries id stands loading =
+    let (t, kept, loads) = loading_kept key_at start r entries id stands loading in
+    let one : promise_of t ≡ length t.tracks - published_tracks t + 1 =
+    ap (λ b. cond b (length t.tracks - published_tracks t + 1) 0) loads in
+    omega (
+      arith,
+      stands.sound.promises,
+      sum-without promise_of r.traces id t stands.sound.rising kept,
+      one,
+    )
 
 -- the place of the entry that is made next
 pub last_place : (key_at : KeyAt) (r : RegistryValue) (old new : List Entry) (e : Entry) (place : ℕ)

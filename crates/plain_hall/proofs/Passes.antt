@@ -1,7 +1,7 @@
--- What an entry does to the passes, the promised places and the open traces.
-use Rattle.std.proofs.Common.{◌≡◌, ℕ, ◌+◌, ◌-◌, ◌<◌, ◌≤◌, true, false, ◌&&◌, ◌||◌, not, cond, eqb, List}
-use Rattle.std.proofs.Common.{[], ◌∷◌, ◌++◌, length, map, filter, sum_by, Option, None, Some, refl, sym, ap}
-use Rattle.std.proofs.Common.{ap₂, ◌∙◌, arith, length-append, get_or, Contains}
+-- What an entry does to the passes.
+use Rattle.std.proofs.Common.{◌≡◌, ℕ, ◌+◌, ◌<◌, ◌≤◌, true, false, ◌&&◌, ◌||◌, not, cond, eqb, List}
+use Rattle.std.proofs.Common.{[], ◌∷◌, ◌++◌, length, map, filter, Option, None, Some, refl, sym, ap}
+use Rattle.std.proofs.Common.{ap₂, ◌∙◌, arith, get_or, Contains}
 use Rattle.std.specs.Prelude.{is_some}
 use Rattle.std.specs.List.{list_any}
 use Rattle.std.specs.Option.{option_map_or, option_or}
@@ -9,20 +9,17 @@ use Rattle.std.proofs.Math.Path.{fun_ext}
 use Rattle.std.proofs.lemmas.List.{append-nil, map-append, get_or-map, length-map}
 use Rattle.std.proofs.lemmas.List.Elements.{filter-append, filter_passes}
 use Rattle.std.proofs.lemmas.List.Folds.{list_any-append}
-use Rattle.std.proofs.lemmas.List.Sums.{sum_by-append}
 use Rattle.std.proofs.lemmas.Bool.{eq-eqb}
 use Rattle.std.proofs.lemmas.Bool.{or_right}
-use mathlib.Core.Bool.{or-false}
 use Rattle.list_lemmas.proofs.AroundOne.{AgreeBut, Around, Lacks, Lacks-filter, filter_same, filters_around}
-use Rattle.list_lemmas.proofs.AroundOne.{map_same, range_below, sum_same}
+use Rattle.list_lemmas.proofs.AroundOne.{map_same, range_below}
 use Rattle.list_lemmas.proofs.Booleans.{and_not}
 use Rattle.list_lemmas.proofs.Found.{any_more}
 use Rattle.list_lemmas.proofs.Maps.{map_middle}
-use Rattle.list_lemmas.proofs.Sums.{sum_by-middle}
 use Rattle.trace_base.specs.declared.names.TraceInfo.{TraceInfo}
 use Rattle.hall_history.specs.History.{EntryOf, Opened, Published, Sealed, Dropped, Asked, seals, ends}
-use Rattle.hall_history.specs.History.{opened_ids, info_of, is_open, is_loading, open_ids, tracks_of}
-use Rattle.hall_history.specs.History.{published_count, promised}
+use Rattle.hall_history.specs.History.{opened_ids, info_of, is_open, is_loading, open_ids}
+use Rattle.hall_history.specs.History.{published_count}
 use Rattle.plain_hall.specs.Loading.{loading_ids, pass_of, passes_of}
 use Rattle.plain_hall.specs.Orderly.{IsOrderly}
 use Rattle.hall_history.specs.Seat.{Adds, Removes, Replaces}
@@ -30,32 +27,21 @@ use Rattle.hall_history.specs.declared.seat.PassView.{PassView}
 use Rattle.plain_hall.proofs.Legal.{open_within}
 use Rattle.hall_history.proofs.HistoryMore.{SameData, SameFate, subject, opened_more, info_more, count_more}
 use Rattle.hall_history.proofs.HistoryMore.{data_of_others, fate_of_others, data_asked, fate_asked}
-use Rattle.hall_history.proofs.HistoryMore.{fate_published, open_same, loading_same, tracks_same}
+use Rattle.hall_history.proofs.HistoryMore.{fate_published, loading_same, tracks_same}
 use Rattle.hall_history.proofs.HistoryFronts.{loading_open}
-
--- the places that are promised to the trace, if it is loading
-abbrev pub promise_of : {X : Type 0} → List (EntryOf X) → ℕ → ℕ
-promise_of entries id = tracks_of entries id - published_count entries id + 1
 
 -- the histories agree on all traces but one
 pub record AgreeOnOthers {X : Type 0} (old new : List (EntryOf X)) (id : ℕ) : Type 0 where
-  pub opens : AgreeBut id (is_open old) (is_open new)
   pub loads : AgreeBut id (is_loading old) (is_loading new)
   pub passes : AgreeBut id (pass_of old) (pass_of new)
-  pub promises : AgreeBut id (promise_of old) (promise_of new)
 
 pass_same : {X : Type 0} → (old new : List (EntryOf X)) (id : ℕ) → SameData old new id → pass_of new id ≡ pass_of old id
 pass_same old new id same = rw (same.count, tracks_same old new id same) refl
 
-promise_same : {X : Type 0} → (old new : List (EntryOf X)) (id : ℕ) → SameData old new id → promise_of new id ≡ promise_of old id
-promise_same old new id same = rw (same.count, tracks_same old new id same) refl
-
 pub others_agree : {X : Type 0} → (entries : List (EntryOf X)) (e : EntryOf X) → AgreeOnOthers entries (entries ++ e ∷ []) (subject e)
 others_agree entries e = record {
-  opens = λ x ne. open_same entries _ x (data_of_others entries e x ne) (fate_of_others entries e x ne);
   loads = λ x ne. loading_same entries _ x (data_of_others entries e x ne) (fate_of_others entries e x ne);
   passes = λ x ne. pass_same entries _ x (data_of_others entries e x ne);
-  promises = λ x ne. promise_same entries _ x (data_of_others entries e x ne);
 }
 
 -- the loading traces before and after, around one of them
@@ -80,12 +66,10 @@ open_same_by old new id ids ended = rw (ids, ended) refl
 -- nothing changes
 pub record KeepsAll {X : Type 0} (old new : List (EntryOf X)) : Type 0 where
   pub passes : passes_of new ≡ passes_of old
-  pub promises : promised new ≡ promised old
   pub opens : length (open_ids new) ≡ length (open_ids old)
-  pub ids : opened_ids new ≡ opened_ids old
 
 pub asked_keeps : {X : Type 0} → (entries : List (EntryOf X)) → KeepsAll entries (entries ++ Asked ∷ [])
-unfolding promised open_ids
+unfolding open_ids
 asked_keeps entries =
     let new = entries ++ Asked ∷ [] in
     let ids : opened_ids new ≡ opened_ids entries = opened_more entries Asked ∙ append-nil _ in
@@ -95,33 +79,22 @@ asked_keeps entries =
     fun_ext (λ x. open_same_by entries new x ids (fate_asked entries x).ended) in
     let passes : pass_of new ≡ pass_of entries = fun_ext (λ x. pass_same entries new x (data_asked entries x))
     in
-    let promises : promise_of new ≡ promise_of entries =
-    fun_ext (λ x. promise_same entries new x (data_asked entries x)) in
     record {
       passes = ap₂ map passes (ap₂ filter loads ids);
-      promises = ap₂ sum_by promises (ap₂ filter loads ids);
       opens = ap length (ap₂ filter opens ids);
-      ids = ids;
     }
 
--- One pass goes on, with one promised place fewer.
-pub record GoesOn {X : Type 0} (old new : List (EntryOf X)) (id : ℕ) : Type 0 where
-  pub passes : Replaces (passes_of old) (passes_of new) (pass_of old id) (pass_of new id)
-  pub promises : promised old + promise_of new id ≡ promised new + promise_of old id
-  pub opens : length (open_ids new) ≡ length (open_ids old)
-  pub ids : opened_ids new ≡ opened_ids old
-
+-- one pass goes on where a track is published
 pub published_goes_on : {X : Type 0} → (entries : List (EntryOf X)) (id track : ℕ) (s : X) → IsOrderly entries
-    → is_loading entries id ≡ true → GoesOn entries (entries ++ Published id track s ∷ []) id
-unfolding promised open_ids
+    → is_loading entries id ≡ true → Replaces (passes_of entries)
+    (passes_of (entries ++ Published id track s ∷ [])) (pass_of entries id)
+    (pass_of (entries ++ Published id track s ∷ []) id)
 published_goes_on entries id track s orderly loading =
     let new = entries ++ Published id track s ∷ [] in
     let ids : opened_ids new ≡ opened_ids entries = opened_more entries (Published id track s) ∙ append-nil _
     in
     let loads : is_loading new ≡ is_loading entries =
     fun_ext (λ x. loading_same_by entries new x ids (fate_published entries id track s x)) in
-    let opens : is_open new ≡ is_open entries =
-    fun_ext (λ x. open_same_by entries new x ids (fate_published entries id track s x).ended) in
     let agree = others_agree entries (Published id track s) in
     let parts = loads_around entries new id orderly ids agree (loading_open entries id loading) in
     let was : loading_ids entries ≡ parts.front ++ id ∷ []
@@ -131,38 +104,17 @@ published_goes_on entries id track s orderly loading =
     map_same _ _ id parts.front agree.passes parts.lacks_front in
     let back : map (pass_of new) parts.back ≡ map (pass_of entries) parts.back = map_same _ _ id parts.back
     agree.passes parts.lacks_back in
-    let sum_was : promised entries ≡ sum_by (promise_of entries) parts.front
-    + sum_by (promise_of entries) (id ∷ []) + sum_by (promise_of entries) parts.back =
-    ap (sum_by (promise_of entries)) was ∙ sum_by-middle _ parts.front (id ∷ []) parts.back in
-    let sum_is : promised new ≡ sum_by (promise_of new) parts.front + sum_by (promise_of new) (id ∷ [])
-    + sum_by (promise_of new) parts.back = ap (sum_by (promise_of new)) is ∙ sum_by-middle _ parts.front
-    (id ∷ []) parts.back in
-    let sum_front : sum_by (promise_of new) parts.front ≡ sum_by (promise_of entries) parts.front =
-    sum_same _ _ id parts.front agree.promises parts.lacks_front in
-    let sum_back : sum_by (promise_of new) parts.back ≡ sum_by (promise_of entries) parts.back =
-    sum_same _ _ id parts.back agree.promises parts.lacks_back in
     record {
-      passes = record {
-        front = map (pass_of entries) parts.front;
-        back = map (pass_of entries) parts.back;
-        was = ap (map (pass_of entries)) was ∙ map_middle (pass_of entries) parts.front id parts.back;
-        now = ap (map (pass_of new)) is ∙ map_middle (pass_of new) parts.front id parts.back ∙ ap₂
-            (λ xs ys. xs ++ pass_of new id ∷ ys) front back;
-      };
-      promises = omega arith;
-      opens = ap length (ap₂ filter opens ids);
-      ids = ids;
+      front = map (pass_of entries) parts.front;
+      back = map (pass_of entries) parts.back;
+      was = ap (map (pass_of entries)) was ∙ map_middle (pass_of entries) parts.front id parts.back;
+      now = ap (map (pass_of new)) is ∙ map_middle (pass_of new) parts.front id parts.back ∙ ap₂
+          (λ xs ys. xs ++ pass_of new id ∷ ys) front back;
     }
 
--- One pass is gone, with the places promised to its trace.
-pub record Ends {X : Type 0} (old new : List (EntryOf X)) (id : ℕ) : Type 0 where
-  pub passes : Removes (passes_of old) (passes_of new) (pass_of old id)
-  pub promises : promised old ≡ promised new + promise_of old id
-  pub ids : opened_ids new ≡ opened_ids old
-
+-- one pass is gone where a load ends
 ends_by : {X : Type 0} → (old new : List (EntryOf X)) (id : ℕ) → IsOrderly old → is_loading old id ≡ true
-    → is_loading new id ≡ false → opened_ids new ≡ opened_ids old → AgreeOnOthers old new id → Ends old new id
-unfolding promised
+    → is_loading new id ≡ false → opened_ids new ≡ opened_ids old → AgreeOnOthers old new id → Removes (passes_of old) (passes_of new) (pass_of old id)
 ends_by old new id orderly loading ended ids agree =
     let parts = loads_around old new id orderly ids agree (loading_open old id loading) in
     let was : loading_ids old ≡ parts.front ++ id ∷ []
@@ -173,31 +125,17 @@ ends_by old new id orderly loading ended ids agree =
     agree.passes parts.lacks_front in
     let back : map (pass_of new) parts.back ≡ map (pass_of old) parts.back = map_same _ _ id parts.back
     agree.passes parts.lacks_back in
-    let sum_was : promised old ≡ sum_by (promise_of old) parts.front + sum_by (promise_of old) (id ∷ [])
-    + sum_by (promise_of old) parts.back = ap (sum_by (promise_of old)) was ∙ sum_by-middle _ parts.front
-    (id ∷ []) parts.back in
-    let sum_is : promised new ≡ sum_by (promise_of new) parts.front + sum_by (promise_of new) []
-    + sum_by (promise_of new) parts.back = ap (sum_by (promise_of new)) is ∙ sum_by-middle _ parts.front []
-    parts.back in
-    let sum_front : sum_by (promise_of new) parts.front ≡ sum_by (promise_of old) parts.front =
-    sum_same _ _ id parts.front agree.promises parts.lacks_front in
-    let sum_back : sum_by (promise_of new) parts.back ≡ sum_by (promise_of old) parts.back =
-    sum_same _ _ id parts.back agree.promises parts.lacks_back in
     record {
-      passes = record {
-        front = map (pass_of old) parts.front;
-        back = map (pass_of old) parts.back;
-        was = ap (map (pass_of old)) was ∙ map_middle (pass_of old) parts.front id parts.back;
-        now = ap (map (pass_of new)) is ∙ map-append (pass_of new) (parts.front ++ []) parts.back ∙ ap
-            (λ xs. map (pass_of new) xs ++ map (pass_of new) parts.back) (append-nil parts.front) ∙ ap₂ ◌++◌
-            front back;
-      };
-      promises = omega arith;
-      ids = ids;
+      front = map (pass_of old) parts.front;
+      back = map (pass_of old) parts.back;
+      was = ap (map (pass_of old)) was ∙ map_middle (pass_of old) parts.front id parts.back;
+      now = ap (map (pass_of new)) is ∙ map-append (pass_of new) (parts.front ++ []) parts.back ∙ ap
+          (λ xs. map (pass_of new) xs ++ map (pass_of new) parts.back) (append-nil parts.front) ∙ ap₂ ◌++◌
+          front back;
     }
 
 pub sealed_ends : {X : Type 0} → (entries : List (EntryOf X)) (id : ℕ) → IsOrderly entries → is_loading entries id ≡ true
-    → Ends entries (entries ++ Sealed id ∷ []) id
+    → Removes (passes_of entries) (passes_of (entries ++ Sealed id ∷ [])) (pass_of entries id)
 unfolding is_loading
 sealed_ends entries id orderly loading =
     let new = entries ++ Sealed id ∷ [] in
@@ -206,17 +144,6 @@ sealed_ends entries id orderly loading =
     ends_by entries new id orderly loading (and_not (is_open new id) _ sealed)
     (opened_more entries (Sealed id) ∙ append-nil _) (others_agree entries (Sealed id))
 
--- a sealed trace stays open
-pub sealed_opens : {X : Type 0} → (entries : List (EntryOf X)) (id : ℕ) → length (open_ids (entries ++ Sealed id ∷ [])) ≡ length
-    (open_ids entries)
-unfolding open_ids
-sealed_opens entries id =
-    let new = entries ++ Sealed id ∷ [] in
-    let ids : opened_ids new ≡ opened_ids entries = opened_more entries (Sealed id) ∙ append-nil _ in
-    let opens : is_open new ≡ is_open entries =
-    fun_ext (λ x. open_same_by entries new x ids (any_more (ends x) entries (Sealed id) ∙ or-false _)) in
-    ap length (ap₂ filter opens ids)
-
 pub dropped_closed : {X : Type 0} → (entries : List (EntryOf X)) (id : ℕ) → is_open (entries ++ Dropped id ∷ []) id ≡ false
 unfolding is_open
 dropped_closed entries id = and_not (list_any (λ other. eqb other id)
@@ -224,7 +151,7 @@ dropped_closed entries id = and_not (list_any (λ other. eqb other id)
     (eq-eqb id id refl))
 
 pub dropped_ends : {X : Type 0} → (entries : List (EntryOf X)) (id : ℕ) → IsOrderly entries → is_loading entries id ≡ true
-    → Ends entries (entries ++ Dropped id ∷ []) id
+    → Removes (passes_of entries) (passes_of (entries ++ Dropped id ∷ [])) (pass_of entries id)
 unfolding is_loading
 dropped_ends entries id orderly loading =
     let new = entries ++ Dropped id ∷ [] in
@@ -232,40 +159,11 @@ dropped_ends entries id orderly loading =
     (ap (λ b. b && not (list_any (seals id) new)) (dropped_closed entries id))
     (opened_more entries (Dropped id) ∙ append-nil _) (others_agree entries (Dropped id))
 
-pub dropped_opens : {X : Type 0} → (entries : List (EntryOf X)) (id : ℕ) → IsOrderly entries → is_loading entries id ≡ true
-    → length (open_ids entries) ≡ length (open_ids (entries ++ Dropped id ∷ [])) + 1
-unfolding open_ids
-dropped_opens entries id orderly loading =
-    let new = entries ++ Dropped id ∷ [] in
-    let on = loading_open entries id loading in
-    let ids : opened_ids new ≡ opened_ids entries = opened_more entries (Dropped id) ∙ append-nil _ in
-    let agree = others_agree entries (Dropped id) in
-    let within = open_within entries id orderly on in
-    let parts : Around (is_open entries) (is_open new) id (opened_ids entries) =
-    rw orderly.ids (filters_around (is_open entries) (is_open new) id 1 (length (opened_ids entries))
-    agree.opens within.0 (omega (arith, within.1))) in
-    let was : filter (is_open entries) (opened_ids entries) ≡ parts.front ++ id ∷ []
-    ++ parts.back = parts.old ∙ ap (λ b. parts.front ++ cond b (id ∷ []) [] ++ parts.back) on in
-    let is : filter (is_open new) (opened_ids new) ≡ parts.front ++ []
-    ++ parts.back = ap (filter (is_open new)) ids ∙ parts.new ∙ ap
-    (λ b. parts.front ++ cond b (id ∷ []) [] ++ parts.back) (dropped_closed entries id) in
-    omega (
-      arith,
-      ap length was,
-      ap length is,
-      length-append (parts.front ++ id ∷ []) parts.back,
-      length-append parts.front (id ∷ []),
-      length-append (parts.front ++ []) parts.back,
-      length-append {A = ℕ} parts.front [],
-    )
-
 -- One trace is opened, and a pass over its tracks is added.
 pub record Opens {X : Type 0} (old new : List (EntryOf X)) (id : ℕ) (info : TraceInfo) : Type 0 where
   pub told : info_of new id ≡ Some info
   pub count : published_count new id ≡ 0
   pub passes : Adds (passes_of old) (passes_of new) (pass_of new id)
-  pub promises : promised new ≡ promised old + length info.names.tracks + 1
-  pub opens : length (open_ids new) ≡ length (open_ids old) + 1
   pub ids : opened_ids new ≡ opened_ids old ++ id ∷ []
 
 opened_on : {X : Type 0} → (entries : List (EntryOf X)) (id : ℕ) (info : TraceInfo) → IsOrderly entries
@@ -300,15 +198,8 @@ unborn_count : (o : Option TraceInfo) (n : ℕ) → is_some o ≡ false
 unborn_count None n e le = omega arith
 unborn_count (Some other) n e le = absurd cc
 
--- of a trace that isn't opened yet nothing is published
-pub unpublished_yet : {X : Type 0} → (entries : List (EntryOf X)) (id : ℕ) (info : TraceInfo) → IsOrderly entries
-    → id ≡ length (opened_ids entries) + 1 → published_count entries id ≡ 0
-unpublished_yet entries id info orderly next =
-    unborn_count (info_of entries id) _ (orderly.unborn id (omega (arith, next))).info (orderly.counted id)
-
 pub opened_opens : {X : Type 0} → (entries : List (EntryOf X)) (id : ℕ) (info : TraceInfo) → IsOrderly entries
     → id ≡ length (opened_ids entries) + 1 → Opens entries (entries ++ Opened id info ∷ []) id info
-unfolding promised open_ids
 opened_opens entries id info orderly next =
     let new = entries ++ Opened id info ∷ [] in
     let above : length (opened_ids entries) < id = omega arith in
@@ -321,10 +212,6 @@ opened_opens entries id info orderly next =
     (id ∷ []) ∙ ap₂ (λ xs b. xs ++ cond b (id ∷ []) [])
     (filter_same _ _ id (opened_ids entries) agree.loads lacks)
     (opened_loads entries id info orderly above) in
-    let on : filter (is_open new) (opened_ids new) ≡ filter (is_open entries) (opened_ids entries) ++ id
-    ∷ [] = ap (filter (is_open new)) ids ∙ filter-append (is_open new) (opened_ids entries) (id ∷ []) ∙
-    ap₂ (λ xs b. xs ++ cond b (id ∷ []) []) (filter_same _ _ id (opened_ids entries) agree.opens lacks)
-    (opened_on entries id info orderly above) in
     let unborn = orderly.unborn id above in
     let told : info_of new id ≡ Some info = info_more entries (Opened id info) id ∙ ap
     (λ b. option_or (info_of entries id) (cond b (Some info) None)) (eq-eqb id id refl) ∙ unborn_info
@@ -333,22 +220,11 @@ opened_opens entries id info orderly next =
     (orderly.counted id) in
     let count : published_count new id ≡ 0 = count_more entries (Opened id info) id ∙ omega arith in
     let loaders = Lacks-filter (is_loading entries) id (opened_ids entries) lacks in
-    let tracks : tracks_of new id ≡ length info.names.tracks =
-    ap (λ o. option_map_or (λ (i : TraceInfo). length i.names.tracks) o 0) told in
     record {
       told = told;
       count = count;
       passes = ap (map (pass_of new)) is ∙ map-append (pass_of new) (loading_ids entries) (id ∷ []) ∙ ap
           (λ xs. xs ++ pass_of new id ∷ []) (map_same _ _ id (loading_ids entries) agree.passes loaders);
-      promises =
-          let sum_is : promised new ≡ sum_by (promise_of new) (loading_ids entries)
-          + sum_by (promise_of new) (id ∷ []) = ap (sum_by (promise_of new)) is ∙ sum_by-append
-          (promise_of new) (loading_ids entries) (id ∷ []) in
-          let sum_was : sum_by (promise_of new) (loading_ids entries) ≡ promised entries =
-          sum_same _ _ id (loading_ids entries) agree.promises loaders in
-          let this : promise_of new id ≡ length info.names.tracks + 1 = rw (tracks, count) (omega arith) in
-          omega arith;
-      opens = ap length on ∙ length-append (filter (is_open entries) (opened_ids entries)) (id ∷ []);
       ids = ids;
     }
 

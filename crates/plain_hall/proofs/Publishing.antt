@@ -14,7 +14,7 @@ use Rattle.node_key.specs.Trees.{tree}
 use Rattle.registry_core.proofs.ToldTracks.{not_yet_told, published_told}
 use Rattle.registry_core.specs.Registry.{RegistryValue, kept_trace}
 use Rattle.registry_core.specs.Standing.{AreTrees}
-use Rattle.registry_core.specs.Trace.{Trace, told_of}
+use Rattle.registry_core.specs.Trace.{Trace, published_by}
 use Rattle.store_laws.proofs.SumsOfStakes.{among_held}
 use Rattle.node_store.proofs.TreesUnder.{tree_is}
 use Rattle.node_store.specs.Given.{ever, stakes_of}
@@ -43,7 +43,7 @@ root_of_tree key_at n start s stands begins =
 -- what the registry tells of a track is what the history tells
 pub track_told : (nodes : NodesKept) (r : RegistryValue) (entries : List (EntryOf Root))
     (queries : List AskIds) (id place track : ℕ) (t : Trace) (o : Published)
-    → IsSoundHall nodes r entries queries → kept_trace r.traces id ≡ Some t → told_of t place track ≡ o
+    → IsSoundHall nodes r entries queries → kept_trace r.traces id ≡ Some t → published_by t place track ≡ o
     → TellsTrack (take place (with_trees (ever nodes.given) entries)) id track (Stands (ever nodes.given)) o
 track_told nodes r entries queries id place track t NotYet whole kept told =
     let seen = with_trees (ever nodes.given) entries in

@@ -23,7 +23,7 @@ pub push-requires : goal.push-requires
 push-requires g c =
     let was = c.args.self.now in
     let facts = pass_facts _ c.args.pass was.whole.orderly c.requires.has in
-    omega (arith, was.space, owes _ _ _ _ c.args.pass.id was.whole.stands was.whole.orderly facts.loading)
+    omega (arith, was.space, owes _ _ _ _ c.args.pass.id was.whole.stands facts.loading)
 
 pub abandon-requires : goal.abandon-requires
 abandon-requires g c =
@@ -51,7 +51,7 @@ invariant_of-self g c =
     let new = c.abandon.new.self in
     let facts = pass_facts _ c.args.pass was.whole.orderly c.requires.has in
     let loads = loading_kept _ _ _ _ id was.whole.stands facts.loading in
-    let owed = owes _ _ _ _ id was.whole.stands was.whole.orderly facts.loading in
+    let owed = owes _ _ _ _ id was.whole.stands facts.loading in
     let end : EndsIn was.registry id (Ended c.in-Ended.place c.in-Ended.roots) new =
     subst (λ (o : RegEnd). EndsIn was.registry id o new) c.in-Ended.is c.abandon.ensures in
     let keeps = keeps_taken was.nodes (ever was.nodes.given) (roots_kept was.registry.traces)
@@ -75,7 +75,7 @@ invariant_of-self-in-Kept-1 g c =
     let new = c.abandon.new.self in
     let facts = pass_facts _ c.args.pass was.whole.orderly c.requires.has in
     let loads = loading_kept _ _ _ _ id was.whole.stands facts.loading in
-    let owed = owes _ _ _ _ id was.whole.stands was.whole.orderly facts.loading in
+    let owed = owes _ _ _ _ id was.whole.stands facts.loading in
     let end : EndsIn was.registry id (Kept c.in-Kept.place) new =
     subst (λ (o : RegEnd). EndsIn was.registry id o new) c.in-Kept.is c.abandon.ensures in
     let fewer = fewer_promised was.registry new id (Kept c.in-Kept.place) loads end (omega (arith, owed)) in
@@ -99,7 +99,7 @@ returns-in-Ended-clause-answer g c =
     ∙ seen_more (ever was.nodes.given) _ _ (Dropped id) c.push.ensures.seen in
     load_entry _ _ _ _ _ c.args.pass _ c.in-Ended.place seen
     (last_place _ _ (seen_by was) _ _ c.in-Ended.place was.whole.stands seen end.3) facts
-    (dropped_ends _ id was.whole.orderly facts.loading).passes
+    (dropped_ends _ id was.whole.orderly facts.loading)
 
 pub returns-in-Kept-clause-answer : goal.returns-in-Kept-clause-answer
 returns-in-Kept-clause-answer g c =
@@ -111,7 +111,7 @@ returns-in-Kept-clause-answer g c =
     let seen = seen_more (ever was.nodes.given) _ _ (Dropped id) c.push.ensures.seen in
     load_entry _ _ _ _ _ c.args.pass _ c.in-Kept.place seen
     (last_place _ _ (seen_by was) _ _ c.in-Kept.place was.whole.stands seen end.3) facts
-    (dropped_ends _ id was.whole.orderly facts.loading).passes
+    (dropped_ends _ id was.whole.orderly facts.loading)
 
 pub returns-in-Kept-clause-nexts : goal.returns-in-Kept-clause-nexts
 returns-in-Kept-clause-nexts g c = nexts_same _

@@ -50,7 +50,7 @@ pub push-requires : goal.push-requires
 push-requires g c =
     let was = c.args.self.now in
     let facts = pass_facts _ c.args.pass.now was.whole.orderly c.requires.has in
-    omega (arith, was.space, owes _ _ _ _ c.args.pass.now.id was.whole.stands was.whole.orderly facts.loading)
+    omega (arith, was.space, owes _ _ _ _ c.args.pass.now.id was.whole.stands facts.loading)
 
 pub invariant_of-self : goal.invariant_of-self
 invariant_of-self g c =
@@ -59,7 +59,7 @@ invariant_of-self g c =
     let key_at = ever was.nodes.given in
     let nodes = c.hand_over.new.self in
     let facts = pass_facts _ pass was.whole.orderly c.requires.has in
-    let owed = owes _ _ _ _ pass.id was.whole.stands was.whole.orderly facts.loading in
+    let owed = owes _ _ _ _ pass.id was.whole.stands facts.loading in
     let track = c.in-Straight.track in
     let root : Root = record { start = c.args.start; node = c.args.root } in
     let s = c.requires.root.1 in

@@ -16,7 +16,7 @@ pub push-requires : goal.push-requires
 push-requires g c =
     let was = c.args.self.now in
     let facts = pass_facts _ c.args.pass was.whole.orderly c.requires.has in
-    omega (arith, was.space, owes _ _ _ _ c.args.pass.id was.whole.stands was.whole.orderly facts.loading)
+    omega (arith, was.space, owes _ _ _ _ c.args.pass.id was.whole.stands facts.loading)
 
 pub seal-requires : goal.seal-requires
 seal-requires g c =
@@ -29,7 +29,7 @@ pub invariant_of-self : goal.invariant_of-self
 invariant_of-self g c =
     let was = c.args.self.now in
     let facts = pass_facts _ c.args.pass was.whole.orderly c.requires.has in
-    let owed = owes _ _ _ _ c.args.pass.id was.whole.stands was.whole.orderly facts.loading in
+    let owed = owes _ _ _ _ c.args.pass.id was.whole.stands facts.loading in
     let left = ap (λ (r : RegistryValue). r.promised) c.seal.ensures.rest in
     record {
       whole = whole_sealed _ _ _ _ _ c.args.pass.id _ c.push.ensures.seen c.seal.ensures.rest
@@ -50,7 +50,7 @@ returns-clause-answer g c =
     let seen = seen_more (ever was.nodes.given) _ _ (Sealed c.args.pass.id) c.push.ensures.seen in
     load_entry _ _ _ _ _ c.args.pass _ c.seal.result seen
     (last_place _ _ (seen_by was) _ _ c.seal.result was.whole.stands seen c.seal.ensures.place)
-    facts (sealed_ends _ c.args.pass.id was.whole.orderly facts.loading).passes
+    facts (sealed_ends _ c.args.pass.id was.whole.orderly facts.loading)
 
 pub returns-clause-nexts : goal.returns-clause-nexts
 returns-clause-nexts g c = nexts_same _
