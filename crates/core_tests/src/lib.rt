@@ -2,6 +2,16 @@
 #![tactic(auto)]
 
 #[cfg(test)]
+mod keys;
+#[cfg(test)]
+mod nodes;
+#[cfg(test)]
+mod orders;
+#[cfg(test)]
 mod registry;
 #[cfg(test)]
-mod steps;
+mod seats;
+#[cfg(test)]
+mod tracks;
+#[cfg(test)]
+mod turns;

@@ -46,10 +46,6 @@ good-one w i seat good at x y at_x at_y number =
     (good-stands w i seat good at y at_y) in
     λ i. record { number = number i; tree = tree i }
 
--- the rooms of a good world are a store's
-pub good-canonic : (w : World) → IsGood w → IsCanonic w.state.shards
-good-canonic w good = good.store.canonic
-
 -- no seat of a good world has made or seen an entry
 pub good-seat : (w : World) (i : ℕ) (seat : SeatView) → IsGood w → slice_get w.seats i ≡ Some seat
     → HasSeenNothing seat

@@ -57,6 +57,3 @@ joined-quotable word n plain small = quotable (word ++ decimal n) (list_all-appe
 
 pub decimal-quotable : (n : ℕ) → n < 2 ^ 64 → IsQuotable (decimal n)
 decimal-quotable n small = quotable (decimal n) (decimal-plain n small)
-
-pub work-quotable : IsQuotable (codes "work")
-work-quotable = quotable (codes "work") refl

@@ -1,5 +1,4 @@
-use crate::samples::leaf;
-use node_key::{CallTree, room_of_key, room_of_number};
+use node_key::{CallTree, NodeKey, room_of_key, room_of_number};
 use std::test::Fail;
 use trace_base::Seq;
 
@@ -22,7 +21,7 @@ fn a_leaf_tells_its_parts_and_so_does_its_copy(rt: HostRuntime) -> Result<(), Fa
 
 #[test]
 fn rooms_of_keys_and_numbers(rt: HostRuntime) -> Result<(), Fail> {
-    assert_eq!(rt; room_of_key(&leaf(3)), 3);
+    assert_eq!(rt; room_of_key(&NodeKey::leaf(3, 0)), 3);
     assert_eq!(rt; room_of_number(17_592_186_044_403), 3);
     Ok(())
 }

@@ -8,7 +8,7 @@ const _: () = prove!(MEMO_ENTRIES == 4_096);
 
 const _: () = prove!(MEMO_ROWS == 64);
 
-/// Rows of so many functions, from 1 on.
+// Rows of so many functions, from 1 on.
 fn rows_of(alloc: Global, count: u32) -> Result<Seq<Row>, Memory> {
     let mut rows = Seq::new(alloc);
     for n in 0..count {
@@ -22,7 +22,7 @@ fn rows_of(alloc: Global, count: u32) -> Result<Seq<Row>, Memory> {
     Ok(rows)
 }
 
-/// Rows of so many paths, each of one function, from 1 on.
+// Rows of so many paths, each of one function, from 1 on.
 fn path_rows_of(alloc: Global, count: u32) -> Result<Seq<PathRow>, Memory> {
     let mut rows = Seq::new(alloc);
     for n in 0..count {
@@ -37,31 +37,31 @@ fn path_rows_of(alloc: Global, count: u32) -> Result<Seq<PathRow>, Memory> {
     Ok(rows)
 }
 
-/// Keeps a flat profile of so many nanoseconds in which no call was open, and of these rows.
+// Keeps a flat profile of so many nanoseconds in which no call was open, and of these rows.
 fn fill_flat(memo: &mut Memo, n: u64, time: u64, rows: Seq<Row>) {
     let bare = u128::from(time);
     memo.fill(n, MemoKind::Flat, Entry::Flat(Profile { bare, rows }));
 }
 
-/// Keeps a call-tree profile.
+// Keeps a call-tree profile.
 fn fill_paths(memo: &mut Memo, n: u64, time: u64, rows: Seq<PathRow>) {
     let bare = u128::from(time);
     memo.fill(n, MemoKind::Paths, Entry::Paths(PathProfile { bare, rows }));
 }
 
-/// Keeps flat profiles of the numbers from 0 on, below `end`, each of as many nanoseconds.
+// Keeps flat profiles of the numbers from 0 on, below `end`, each of as many nanoseconds.
 fn fill_all(memo: &mut Memo, alloc: Global, end: u64) {
     for n in 0..end {
         fill_flat(memo, n, n, Seq::new(alloc));
     }
 }
 
-/// Whether there is nothing of this number and kind.
+// Whether there is nothing of this number and kind.
 fn is_absent(memo: &mut Memo, n: u64, kind: MemoKind) -> Result<bool, Memory> {
     Ok(memo.look(n, kind)?.is_none())
 }
 
-/// Whether the flat profile of a number is of so many nanoseconds, and of these rows.
+// Whether the flat profile of a number is of so many nanoseconds, and of these rows.
 fn is_flat(memo: &mut Memo, n: u64, time: u64, rows: &[Row]) -> Result<bool, Memory> {
     match memo.look(n, MemoKind::Flat)? {
         Some(Entry::Flat(found)) => {
@@ -71,7 +71,7 @@ fn is_flat(memo: &mut Memo, n: u64, time: u64, rows: &[Row]) -> Result<bool, Mem
     }
 }
 
-/// Likewise of the call-tree profile.
+// Likewise of the call-tree profile.
 fn is_paths(memo: &mut Memo, n: u64, time: u64, rows: &[PathRow]) -> Result<bool, Memory> {
     match memo.look(n, MemoKind::Paths)? {
         Some(Entry::Paths(found)) => {
@@ -81,7 +81,7 @@ fn is_paths(memo: &mut Memo, n: u64, time: u64, rows: &[PathRow]) -> Result<bool
     }
 }
 
-/// How many of the numbers from `from` on, below `end`, have a flat profile of as many nanoseconds.
+// How many of the numbers from `from` on, below `end`, have a flat profile of as many nanoseconds.
 fn numbers_there(memo: &mut Memo, from: u64, end: u64) -> Result<u64, Memory> {
     let mut there: u64 = 0;
     for n in from..end {
@@ -128,7 +128,7 @@ fn take<R: Abort>(rt: &R, alloc: Global, memo: &mut Memo, turn: Turn) -> Result<
     Ok(())
 }
 
-/// These turns are taken in a room, one after the other.
+// These turns are taken in a room, one after the other.
 fn take_all<R: Abort>(
     rt: &R,
     alloc: Global,
@@ -141,7 +141,7 @@ fn take_all<R: Abort>(
     Ok(())
 }
 
-/// They are taken in a new room.
+// They are taken in a new room.
 fn play<R: Abort>(rt: &R, alloc: Global, turns: &[Turn]) -> Result<(), Fail> {
     let mut memo = Memo::new(alloc)?;
     Ok(take_all(rt, alloc, &mut memo, turns)?)

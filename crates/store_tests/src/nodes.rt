@@ -51,7 +51,7 @@ fn intern_track(store: &mut NodeStore, main: u64) -> Result<u64, ShardFault>
     Ok(number(store.intern(key_of_track(main))?))
 }
 
-/// Interns the track, leaf by leaf.
+// Interns the track, leaf by leaf.
 fn build(store: &mut NodeStore) -> Result<u64, ShardFault>
     requires kept { (others : List Stake) × KeepsFor store.old others }
     requires owned { (xs : List Stake) × Owns store.old xs }
@@ -65,7 +65,7 @@ fn build(store: &mut NodeStore) -> Result<u64, ShardFault>
     intern_track(store, main)
 }
 
-/// Gives back two stakes, one after the other; so many nodes are there between.
+// Gives back two stakes, one after the other; so many nodes are there between.
 fn release_two<R: Abort>(store: &mut NodeStore, rt: &R, first: u64, between: u64, second: u64)
     requires owned { (t u : Tree) × Owns store.old (stake first t ∷ stake second u ∷ []) }
     requires kept { KeepsFor store.old [] }
@@ -78,8 +78,8 @@ fn release_two<R: Abort>(store: &mut NodeStore, rt: &R, first: u64, between: u64
     assert_eq!(rt; store.live(), 0);
 }
 
-/// The same track twice: the same three nodes, which go with the second of its stakes. A number isn't given
-/// again.
+// The same track twice: the same three nodes, which go with the second of its stakes. A number isn't given
+// again.
 fn build_twice<R: Abort>(store: &mut NodeStore, rt: &R) -> Result<(), ShardFault>
     requires owned { Owns store.old [] }
     requires kept { KeepsFor store.old [] }
@@ -101,8 +101,8 @@ fn a_track_is_three_nodes_and_goes(rt: HostRuntime) -> Result<(), Fail> {
     Ok(build_twice(&mut store, &rt)?)
 }
 
-/// The first stake is published, and the other one given back: the first node stays, and goes with the
-/// published stake.
+// The first stake is published, and the other one given back: the first node stays, and goes with the
+// published stake.
 fn publish_first<R: Abort>(store: &mut NodeStore, rt: &R, root: u64, other: u64)
     requires owned { (t u : Tree) × Owns store.old (stake root t ∷ stake other u ∷ []) }
     requires kept { KeepsFor store.old [] }
@@ -114,7 +114,7 @@ fn publish_first<R: Abort>(store: &mut NodeStore, rt: &R, root: u64, other: u64)
     assert_eq!(rt; store.live(), 0);
 }
 
-/// f is published, and main calls it: without main's stake it stays, and goes with the published one.
+// f is published, and main calls it: without main's stake it stays, and goes with the published one.
 fn publish_a_kid<R: Abort>(store: &mut NodeStore, rt: &R) -> Result<(), ShardFault>
     requires owned { Owns store.old [] }
     requires kept { KeepsFor store.old [] }
@@ -134,7 +134,7 @@ fn a_root_that_is_also_a_kid(rt: HostRuntime) -> Result<(), Fail> {
     Ok(publish_a_kid(&mut store, &rt)?)
 }
 
-/// The last number of a room, and none after it.
+// The last number of a room, and none after it.
 fn give_last<R: Abort>(store: &mut NodeStore, rt: &R) -> Result<(), ShardFault>
     requires owned { Owns store.old [] }
     requires kept { KeepsFor store.old [] }

@@ -1,7 +1,6 @@
 ghost use Rattle.std.specs.Prelude.{◌≡◌, ◌+◌, ◌<◌, ◌≤◌};
 ghost use Rattle.node_key.specs.declared.limits.TheConstants.{MAX_NUMBERS, STORE_ROOMS};
 
-use crate::samples::{NO_KID, leaf};
 use node_key::{Kid, MAX_NUMBERS, NodeKey, room_of_key};
 use shard_core::{Dropped, Interned, MAX_COUNT, Shard, ShardFault};
 use std::alloc::Global;
@@ -20,33 +19,18 @@ const SECOND: Kid = Kid {
     node: 32,
 };
 
-/// A node over two kids.
+const ALL_ZERO: Kid = Kid {
+    gap: 0,
+    span: 0,
+    node: 0,
+};
+
+// A node over two kids.
 fn over(height: u16, first: Kid, second: Kid) -> NodeKey
     requires higher { 1 ≤ height }
     requires within { first.gap + first.span + second.gap + second.span ≤ 100 }
 {
-    NodeKey {
-        func: 5,
-        dur: 100,
-        height,
-        len: 2,
-        kids: [
-            first, second, NO_KID, NO_KID, NO_KID, NO_KID, NO_KID, NO_KID,
-        ],
-    }
-}
-
-/// A kid more, which is all zero.
-fn over_three() -> NodeKey {
-    NodeKey {
-        func: 5,
-        dur: 100,
-        height: 1,
-        len: 3,
-        kids: [
-            FIRST, SECOND, NO_KID, NO_KID, NO_KID, NO_KID, NO_KID, NO_KID,
-        ],
-    }
+    NodeKey::over(5, 100, height, &[first, second])
 }
 
 /// The keys of the tests: two leaves in room 3, and nodes over two kids in room 10 that differ in one part.
@@ -63,6 +47,7 @@ enum Key {
     OtherNumber,
     /// The node is higher.
     OtherHeight,
+    /// There is a kid more, which is all zero.
     OtherLen,
     /// The kids in the other order.
     OtherOrder,
@@ -70,14 +55,14 @@ enum Key {
 
 fn key_of(key: Key) -> NodeKey {
     match key {
-        Key::LeafOf3 => leaf(3),
-        Key::LeafOf19 => leaf(19),
+        Key::LeafOf3 => NodeKey::leaf(3, 0),
+        Key::LeafOf19 => NodeKey::leaf(19, 0),
         Key::TwoKids => over(1, FIRST, SECOND),
         Key::OtherGap => over(1, Kid { gap: 17, ..FIRST }, SECOND),
         Key::OtherSpan => over(1, Kid { span: 18, ..FIRST }, SECOND),
         Key::OtherNumber => over(1, Kid { node: 32, ..FIRST }, SECOND),
         Key::OtherHeight => over(17, FIRST, SECOND),
-        Key::OtherLen => over_three(),
+        Key::OtherLen => NodeKey::over(5, 100, 1, &[FIRST, SECOND, ALL_ZERO]),
         Key::OtherOrder => over(1, SECOND, FIRST),
     }
 }
@@ -142,7 +127,7 @@ fn take<R: Abort>(rt: &R, shard: &mut Shard, room: u8, turn: Turn)
     }
 }
 
-/// These turns are taken in a room, one after the other.
+// These turns are taken in a room, one after the other.
 fn take_all<R: Abort>(rt: &R, shard: &mut Shard, room: u8, turns: &[Turn])
     requires { shard.old.room ≡ room }
     ensures { shard.new.room ≡ room }
@@ -152,7 +137,7 @@ fn take_all<R: Abort>(rt: &R, shard: &mut Shard, room: u8, turns: &[Turn])
     }
 }
 
-/// They are taken in a new room, which gives its numbers from this index on.
+// They are taken in a new room, which gives its numbers from this index on.
 fn play<R: Abort>(rt: &R, alloc: Global, room: u8, next: u64, turns: &[Turn])
     requires one_of_them { room < STORE_ROOMS }
     requires numbers { next ≤ MAX_NUMBERS }

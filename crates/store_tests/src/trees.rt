@@ -18,7 +18,7 @@ const MAIN_AND_TWO_CALLS: [Event; 6] = [
     Event::Leave(500_000_000),
 ];
 
-/// A stream that is legal: main calls f twice.
+// A stream that is legal: main calls f twice.
 fn two_calls(alloc: Global) -> Result<TrackStream, Memory>
     ensures { IfOk result (λ s. IsLegal s) }
 {
@@ -30,7 +30,7 @@ fn two_calls(alloc: Global) -> Result<TrackStream, Memory>
     })
 }
 
-/// Calls of no time, one at each nanosecond.
+// Calls of no time, one at each nanosecond.
 fn in_a_row(alloc: Global, number: u64) -> Result<Seq<Item>, Memory>
     requires { number ≤ 1000 }
     ensures placed { IfOk result (λ is. FitBetween 0 MAX_TIME is) }
@@ -55,7 +55,7 @@ struct Seen {
     len: u8,
 }
 
-/// Adds the nodes of a tree that comes after this gap, each before those below it.
+// Adds the nodes of a tree that comes after this gap, each before those below it.
 fn push_nodes(list: &mut Seq<Seen>, gap: u64, t: &CallTree) -> Result<(), Memory> {
     list.push(Seen {
         gap,
@@ -70,7 +70,7 @@ fn push_nodes(list: &mut Seq<Seen>, gap: u64, t: &CallTree) -> Result<(), Memory
     Ok(())
 }
 
-/// The nodes of the tree of main and two calls, with one look at each.
+// The nodes of the tree of main and two calls, with one look at each.
 fn nodes_of_two_calls(alloc: Global) -> Result<Seq<Seen>, Memory> {
     let mut nodes = Seq::new(alloc);
     let tree = tree_of(alloc, &two_calls(alloc)?)?;
@@ -137,7 +137,7 @@ fn the_events_of_a_tree_from_a_time_on(rt: HostRuntime) -> Result<(), Fail> {
     Ok(())
 }
 
-/// How many items are left of so many calls in a row, and how many kids the first has and how high it is.
+// How many items are left of so many calls in a row, and how many kids the first has and how high it is.
 fn seen_of_bounded(alloc: Global, number: u64) -> Result<(usize, u8, u16), Memory>
     requires { number ≤ 1000 }
 {

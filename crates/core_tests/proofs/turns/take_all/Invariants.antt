@@ -1,5 +1,5 @@
 use Rattle.hall_core.specs.World.{IsGood}
-use Rattle.core_tests.proofs.steps.take_all.Given as goal
+use Rattle.core_tests.proofs.turns.take_all.Given as goal
 
 abbrev pub invariant-loop-turn : goal.invariant-loop-turn
 invariant-loop-turn g l = IsGood l.w

@@ -3,7 +3,7 @@ use Rattle.std.proofs.lemmas.Result.{IfOk-weaker}
 use Rattle.hall_core.specs.World.{IsGood, new_world}
 use Rattle.hall_core.specs.declared.world.World.{World}
 use Rattle.hall_core.proofs.GoodWorlds.{new-good}
-use Rattle.core_tests.proofs.steps.new_hall.Goals as goal
+use Rattle.core_tests.proofs.turns.new_hall.Goals as goal
 
 pub returns : goal.returns
 returns c =
