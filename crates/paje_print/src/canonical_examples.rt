@@ -77,8 +77,8 @@ pub fn broken_links()
     ensures great_size { ¬ IsCanonical (linking (sent 1 (2 ^ 63))) }
 {}
 
-/// More than a limit, and within the others. So many calls or link events make a text too long as well: no
-/// trace breaks these two limits alone.
+/// More than a limit, and within the others; but so many state events, or link events, make the text too long
+/// as well.
 pub fn great_traces()
     ensures time { ¬ IsCanonical (beside_lasting (MAX_TIME + 1)) }
     // There are the root and another container beside these.
