@@ -42,13 +42,21 @@ two_fit bare f c1 i1 e1 g c2 i2 e2 l a b c d e h = (
 abbrev lone : ℕ → Row → Profile
 lone bare r = record { bare = bare; rows = r ∷ [] }
 
-pub before_fits : (p q : Profile) → p ≡ record { bare = 3; rows = row 7 1 2 2 ∷ [] }
-    → q ≡ record { bare = 4; rows = row 5 2 9 8 ∷ [] } → ProfileFits (sum_of p q)
+pub two_rise : (rows : List Row) → rows ≡ row 5 2 9 8 ∷ row 9 1 3 2 ∷ [] → RisesByFunction rows
+unfolding IsStrictlySortedBy
+two_rise rows e = subst RisesByFunction (sym e) ((refl, tt), (tt, tt))
+
+pub around_fits : (p q : Profile) → p ≡ record { bare = 3; rows = row 7 1 2 2 ∷ [] }
+    → q ≡ record { bare = 4; rows = row 5 2 9 8 ∷ row 9 1 3 2 ∷ [] } → ProfileFits (sum_of p q)
 unfolding in_order by_function sum_of
-before_fits p q e g = subst (λ (x : Profile). ProfileFits (sum_of x q)) (sym e)
-    (subst (λ (y : Profile). ProfileFits (sum_of (lone 3 (row 7 1 2 2)) y)) (sym g)
-    (two_fit 7 5 2 9 8 7 1 2 2 (omega arith) (omega arith) (omega arith) (omega arith) (omega arith)
-    (omega arith) (omega arith)))
+around_fits p q e g = subst (λ (x : Profile). ProfileFits (sum_of x q)) (sym e)
+    (subst (λ (y : Profile). ProfileFits (sum_of (lone 3 (row 7 1 2 2)) y)) (sym g) (
+      omega arith,
+      All-cons RowFits (row 5 2 9 8) (row 7 1 2 2 ∷ row 9 1 3 2 ∷ [])
+          (row_fits 5 2 9 8 (omega arith) (omega arith) (omega arith))
+          (two_fit 7 7 1 2 2 9 1 3 2 (omega arith) (omega arith) (omega arith) (omega arith) (omega arith)
+          (omega arith) (omega arith)).1,
+    ))
 
 pub same_fits : (p q : Profile) → p ≡ record { bare = 0; rows = row 1 2 4 4 ∷ [] }
     → q ≡ record { bare = 0; rows = row 1 0 6 6 ∷ [] } → ProfileFits (sum_of p q)
@@ -107,9 +115,38 @@ sum_fits p q e g = subst (λ (x : PathProfile). PathProfileFits (sum_of_paths x 
     (pair_fits 3 1 2 2 9 6 2 1 1 3 3 (omega arith) (omega arith) (omega arith) (omega arith) (omega arith)
     (omega arith) (omega arith) (omega arith) (omega arith)))
 
-pub closing_fits : (p : PathProfile) → p ≡ record { bare = 3; rows = path_line 1 2 1 4 4 ∷ [] }
+path_fits : (d f calls incl excl : ℕ) → d ≤ 99 → calls ≤ 99 → incl ≤ 99 → excl ≤ 99
+    → PathRowFits (path_line d f calls incl excl)
+path_fits d f calls incl excl l a b c = (omega arith, omega arith, omega arith, omega arith)
+
+-- one row before others
+one_more_fits : (bare d f calls incl excl : ℕ) (rest : List PathRow) → d ≤ 99 → calls ≤ 99 → incl ≤ 99
+    → excl ≤ 99 → PathProfileFits (record { bare = bare; rows = rest })
+    → PathProfileFits (record { bare = bare; rows = path_line d f calls incl excl ∷ rest })
+one_more_fits bare d f calls incl excl rest l a b c rest_fits = (
+  rest_fits.0,
+  All-cons PathRowFits (path_line d f calls incl excl) rest (path_fits d f calls incl excl l a b c)
+      rest_fits.1,
+)
+
+pub behind_fits : (p q : PathProfile) → p ≡ record { bare = 1; rows = path_line 1 1 1 4 4 ∷ [] }
+    → q ≡ record { bare = 2; rows = path_line 1 2 1 5 2 ∷ path_line 2 1 1 3 3 ∷ [] }
+    → PathProfileFits (sum_of_paths p q)
+unfolding in_order numbers_of by_path sum_of_paths
+behind_fits p q e g = subst (λ (x : PathProfile). PathProfileFits (sum_of_paths x q)) (sym e)
+    (subst (λ (y : PathProfile). PathProfileFits (sum_of_paths
+    (record { bare = 1; rows = path_line 1 1 1 4 4 ∷ [] }) y)) (sym g)
+    (one_more_fits 3 1 1 1 4 4 (path_line 1 2 1 5 2 ∷ path_line 2 1 1 3 3 ∷ []) (omega arith) (omega arith)
+    (omega arith) (omega arith)
+    (pair_fits 3 1 2 1 5 2 2 1 1 3 3 (omega arith) (omega arith) (omega arith) (omega arith) (omega arith)
+    (omega arith) (omega arith) (omega arith) (omega arith))))
+
+pub closing_fits : (p : PathProfile)
+    → p ≡ record { bare = 2; rows = path_line 1 2 1 5 2 ∷ path_line 2 1 1 3 3 ∷ [] }
     → PathProfileFits (closed_paths 2 true p)
 unfolding numbers_of closed_paths
 closing_fits p e = subst (λ (x : PathProfile). PathProfileFits (closed_paths 2 true x)) (sym e)
-    (pair_fits 0 1 2 1 7 3 2 2 1 4 4 (omega arith) (omega arith) (omega arith) (omega arith) (omega arith)
-    (omega arith) (omega arith) (omega arith) (omega arith))
+    (one_more_fits 0 1 2 1 7 2 (path_line 2 2 1 5 2 ∷ path_line 3 1 1 3 3 ∷ []) (omega arith) (omega arith)
+    (omega arith) (omega arith)
+    (pair_fits 0 2 2 1 5 2 3 1 1 3 3 (omega arith) (omega arith) (omega arith) (omega arith) (omega arith)
+    (omega arith) (omega arith) (omega arith) (omega arith)))

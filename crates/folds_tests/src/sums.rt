@@ -35,14 +35,36 @@ fn one(alloc: Global, bare: u128, only: Row) -> Result<Profile, Memory>
     })
 }
 
-#[tactic(auto, using(crate::proofs::TestProfiles::before_fits))]
+/// A profile of the functions 5 and 9.
+fn two(alloc: Global) -> Result<Profile, Memory>
+    ensures is { IfOk result (λ p. p ≡ record {
+      bare = 4;
+      rows = record { func = 5; calls = 2; incl = 9; excl = 8 }
+          ∷ record { func = 9; calls = 1; incl = 3; excl = 2 } ∷ [];
+    }) }
+    ensures ordered { IfOk result (λ p. RisesByFunction p.rows) }
+{
+    let rows = [row(5, 2, 9, 8), row(9, 1, 3, 2)];
+    Ok(Profile {
+        bare: 4,
+        rows: Seq::from_slice(alloc, &rows)?,
+    })
+}
+
+#[tactic(auto, using(crate::proofs::TestProfiles::around_fits))]
 #[test]
-fn a_row_is_added_before_another(rt: HostRuntime) -> Result<(), Fail> {
+fn rows_are_added_around_another(rt: HostRuntime) -> Result<(), Fail> {
     let alloc = rt.alloc();
     let mut sum = one(alloc, 3, row(7, 1, 2, 2))?;
-    let other = one(alloc, 4, row(5, 2, 9, 8))?;
+    let other = two(alloc)?;
     sum.add(&other)?;
-    assert!(rt; is(&sum, 7, &[row(5, 2, 9, 8), row(7, 1, 2, 2)]));
+    assert!(rt;
+        is(
+            &sum,
+            7,
+            &[row(5, 2, 9, 8), row(7, 1, 2, 2), row(9, 1, 3, 2)]
+        )
+    );
     Ok(())
 }
 
@@ -70,9 +92,9 @@ fn a_call_is_closed_over_its_content(rt: HostRuntime) -> Result<(), Fail> {
 #[test]
 fn a_copy_has_the_same_rows(rt: HostRuntime) -> Result<(), Fail> {
     let alloc = rt.alloc();
-    let profile = one(alloc, 3, row(2, 1, 4, 4))?;
+    let profile = two(alloc)?;
     let copy = profile.copy(alloc)?;
-    assert!(rt; is(&copy, 3, &[row(2, 1, 4, 4)]));
+    assert!(rt; is(&copy, 4, &[row(5, 2, 9, 8), row(9, 1, 3, 2)]));
     Ok(())
 }
 
@@ -133,13 +155,33 @@ fn paths_are_added_by_path(rt: HostRuntime) -> Result<(), Fail> {
     Ok(())
 }
 
+#[tactic(auto, using(crate::proofs::TestProfiles::behind_fits))]
+#[test]
+fn paths_are_added_behind_another(rt: HostRuntime) -> Result<(), Fail> {
+    let alloc = rt.alloc();
+    let mut sum = one_path(alloc, 1, path_row(1, 1, 1, 4, 4))?;
+    let other = nested(alloc)?;
+    sum.add(&other)?;
+    let rows = [
+        path_row(1, 1, 1, 4, 4),
+        path_row(1, 2, 1, 5, 2),
+        path_row(2, 1, 1, 3, 3),
+    ];
+    assert!(rt; are(&sum, 3, &rows));
+    Ok(())
+}
+
 #[tactic(auto, using(crate::proofs::TestProfiles::closing_fits))]
 #[test]
 fn paths_are_closed_over_a_call(rt: HostRuntime) -> Result<(), Fail> {
     let alloc = rt.alloc();
-    let mut content = one_path(alloc, 3, path_row(1, 2, 1, 4, 4))?;
+    let mut content = nested(alloc)?;
     content.close_over(2, true)?;
-    let rows = [path_row(1, 2, 1, 7, 3), path_row(2, 2, 1, 4, 4)];
+    let rows = [
+        path_row(1, 2, 1, 7, 2),
+        path_row(2, 2, 1, 5, 2),
+        path_row(3, 1, 1, 3, 3),
+    ];
     assert!(rt; are(&content, 0, &rows));
     Ok(())
 }
@@ -147,8 +189,14 @@ fn paths_are_closed_over_a_call(rt: HostRuntime) -> Result<(), Fail> {
 #[test]
 fn a_copy_has_the_same_paths(rt: HostRuntime) -> Result<(), Fail> {
     let alloc = rt.alloc();
-    let profile = one_path(alloc, 3, path_row(1, 2, 1, 4, 4))?;
+    let profile = nested(alloc)?;
     let copy = profile.copy(alloc)?;
-    assert!(rt; are(&copy, 3, &[path_row(1, 2, 1, 4, 4)]));
+    assert!(rt;
+        are(
+            &copy,
+            2,
+            &[path_row(1, 2, 1, 5, 2), path_row(2, 1, 1, 3, 3)]
+        )
+    );
     Ok(())
 }

@@ -161,77 +161,77 @@ pub record IsAsked (s old : NodesKept) (key : NodeKey) (i : ℕ) (r : Room) : Ty
 
 module _ {s old : NodesKept} {key : NodeKey} {i : ℕ} {r : Room} (asked : IsAsked s old key i r) (q : Room)
   where
-  own_room : slice_get s.rooms (room key) ≡ Some r
-  own_room = key_room s key i r asked.sound asked.room_is (omega (arith, asked.low, asked.room_is))
-      asked.room_at
+    own_room : slice_get s.rooms (room key) ≡ Some r
+    own_room = key_room s key i r asked.sound asked.room_is (omega (arith, asked.low, asked.room_is))
+        asked.room_at
 
-  has_now : HasKids s key
-  has_now = subst (λ (p : NodesKept). HasKids p key) (sym asked.view) asked.has
+    has_now : HasKids s key
+    has_now = subst (λ (p : NodesKept). HasKids p key) (sym asked.view) asked.has
 
-  keeps_now : KeepsFor s asked.others
-  keeps_now = subst (λ (p : NodesKept). KeepsFor p asked.others) (sym asked.view) asked.keeps
+    keeps_now : KeepsFor s asked.others
+    keeps_now = subst (λ (p : NodesKept). KeepsFor p asked.others) (sym asked.view) asked.keeps
 
-  at_room : (P : ℕ → Type 0) → P (room key) → P i
-  at_room P = subst P (sym asked.room_is)
+    at_room : (P : ℕ → Type 0) → P (room key) → P i
+    at_room P = subst P (sym asked.room_is)
 
-  pub old_room : slice_get old.rooms (room key) ≡ Some r
-  old_room = ap (λ (p : NodesKept). slice_get p.rooms (room key)) (sym asked.view) ∙ own_room
+    pub old_room : slice_get old.rooms (room key) ≡ Some r
+    old_room = ap (λ (p : NodesKept). slice_get p.rooms (room key)) (sym asked.view) ∙ own_room
 
-  pub new_sound : (n : ℕ) (g : Given) → Interns r key (Ok (New n)) q → g ≡ with_last s.given i (first_of key)
-      → AreKept (kept (slice_set s.rooms i q) g)
-  new_sound n g interns is =
-      subst (λ (h : Given). AreKept (kept (slice_set s.rooms i q) h)) (sym is)
-      (at_room (λ j. AreKept (kept (slice_set s.rooms j q) (with_last s.given j (first_of key))))
-      (sound_new s key r asked.sound own_room n q asked.others has_now keeps_now interns))
+    pub new_sound : (n : ℕ) (g : Given) → Interns r key (Ok (New n)) q → g ≡ with_last s.given i (first_of key)
+        → AreKept (kept (slice_set s.rooms i q) g)
+    new_sound n g interns is =
+        subst (λ (h : Given). AreKept (kept (slice_set s.rooms i q) h)) (sym is)
+        (at_room (λ j. AreKept (kept (slice_set s.rooms j q) (with_last s.given j (first_of key))))
+        (sound_new s key r asked.sound own_room n q asked.others has_now keeps_now interns))
 
-  pub new_stored : (n : ℕ) (g : Given) → Interns r key (Ok (New n)) q → g ≡ with_last s.given i
-      (first_of key)
-      → StoresIn old key (New n) (kept (slice_set s.rooms i q) g)
-  new_stored n g interns is = record {
-    before = r;
-    after = q;
-    there = old_room;
-    interns = interns;
-    rooms = (λ k. slice_set (asked.view k).rooms (asked.room_is k) q);
-    given = is ∙ (λ k. with_last (asked.view k).given (asked.room_is k) (first_of key));
-  }
+    pub new_stored : (n : ℕ) (g : Given) → Interns r key (Ok (New n)) q → g ≡ with_last s.given i
+        (first_of key)
+        → StoresIn old key (New n) (kept (slice_set s.rooms i q) g)
+    new_stored n g interns is = record {
+      before = r;
+      after = q;
+      there = old_room;
+      interns = interns;
+      rooms = (λ k. slice_set (asked.view k).rooms (asked.room_is k) q);
+      given = is ∙ (λ k. with_last (asked.view k).given (asked.room_is k) (first_of key));
+    }
 
-  pub known_last : (n : ℕ) (g : Given) → Interns r key (Ok (Known n)) q → g ≡ with_last s.given i
-      (first_of key)
-      → (before : Given) × (e : Numbered) × (i < length before.rooms) × (g ≡ with_last before i e)
-      × IsSome (given_entry before n) × (staked_at before n + 1 < 2 ^ 64)
-  known_last n g interns is =
-      let entry = known_entry s key r asked.sound own_room n q asked.others keeps_now interns in (
-        s.given,
-        first_of key,
-        omega (arith, asked.low, asked.sound.lists),
-        is,
-        ap (is_some {T = Numbered}) entry.1,
-        staked_fits s key r asked.sound own_room n q asked.others keeps_now interns,
-      )
+    pub known_last : (n : ℕ) (g : Given) → Interns r key (Ok (Known n)) q → g ≡ with_last s.given i
+        (first_of key)
+        → (before : Given) × (e : Numbered) × (i < length before.rooms) × (g ≡ with_last before i e)
+        × IsSome (given_entry before n) × (staked_at before n + 1 < 2 ^ 64)
+    known_last n g interns is =
+        let entry = known_entry s key r asked.sound own_room n q asked.others keeps_now interns in (
+          s.given,
+          first_of key,
+          omega (arith, asked.low, asked.sound.lists),
+          is,
+          ap (is_some {T = Numbered}) entry.1,
+          staked_fits s key r asked.sound own_room n q asked.others keeps_now interns,
+        )
 
-  pub known_sound : (n : ℕ) (g : Given) → Interns r key (Ok (Known n)) q
-      → g ≡ with_staked s.given n (staked_at s.given n + 1) → AreKept (kept (slice_set s.rooms i q) g)
-  known_sound n g interns is =
-      subst (λ (h : Given). AreKept (kept (slice_set s.rooms i q) h)) (sym is)
-      (at_room (λ j. AreKept (kept (slice_set s.rooms j q) (with_staked s.given n (staked_at s.given n + 1))))
-      (sound_known s key r asked.sound own_room n q asked.others keeps_now interns))
+    pub known_sound : (n : ℕ) (g : Given) → Interns r key (Ok (Known n)) q
+        → g ≡ with_staked s.given n (staked_at s.given n + 1) → AreKept (kept (slice_set s.rooms i q) g)
+    known_sound n g interns is =
+        subst (λ (h : Given). AreKept (kept (slice_set s.rooms i q) h)) (sym is)
+        (at_room (λ j. AreKept (kept (slice_set s.rooms j q) (with_staked s.given n (staked_at s.given n + 1))))
+        (sound_known s key r asked.sound own_room n q asked.others keeps_now interns))
 
-  pub known_stored : (n : ℕ) (g : Given) → Interns r key (Ok (Known n)) q
-      → g ≡ with_staked s.given n (staked_at s.given n + 1)
-      → StoresIn old key (Known n) (kept (slice_set s.rooms i q) g)
-  known_stored n g interns is = record {
-    before = r;
-    after = q;
-    there = old_room;
-    interns = interns;
-    rooms = (λ k. slice_set (asked.view k).rooms (asked.room_is k) q);
-    given = is ∙ (λ k. with_staked (asked.view k).given n (staked_at (asked.view k).given n + 1));
-  }
+    pub known_stored : (n : ℕ) (g : Given) → Interns r key (Ok (Known n)) q
+        → g ≡ with_staked s.given n (staked_at s.given n + 1)
+        → StoresIn old key (Known n) (kept (slice_set s.rooms i q) g)
+    known_stored n g interns is = record {
+      before = r;
+      after = q;
+      there = old_room;
+      interns = interns;
+      rooms = (λ k. slice_set (asked.view k).rooms (asked.room_is k) q);
+      given = is ∙ (λ k. with_staked (asked.view k).given n (staked_at (asked.view k).given n + 1));
+    }
 
-  pub refused_so : (fault : ShardFault) (g : Given) → Interns r key (Err fault) q → g ≡ s.given
-      → StoresKey old key (Err fault) (kept (slice_set s.rooms i q) g)
-  refused_so fault g interns is =
-      subst (λ (p : NodesKept). StoresKey p key (Err fault) (kept (slice_set s.rooms i q) g)) asked.view
-      (at_room (λ j. StoresKey s key (Err fault) (kept (slice_set s.rooms j q) g))
-      (refused s key r asked.sound own_room fault q g interns is))
+    pub refused_so : (fault : ShardFault) (g : Given) → Interns r key (Err fault) q → g ≡ s.given
+        → StoresKey old key (Err fault) (kept (slice_set s.rooms i q) g)
+    refused_so fault g interns is =
+        subst (λ (p : NodesKept). StoresKey p key (Err fault) (kept (slice_set s.rooms i q) g)) asked.view
+        (at_room (λ j. StoresKey s key (Err fault) (kept (slice_set s.rooms j q) g))
+        (refused s key r asked.sound own_room fault q g interns is))

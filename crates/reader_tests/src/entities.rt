@@ -132,6 +132,45 @@ send 0 k 0 2 6
 receive 1 k 0 3 0
 ";
 
+/// Calls of two containers, and between them a message of each of two link types.
+const CALLS_AND_MESSAGES: &str = "\
+0 P 0 Process => Declared
+1 S P State => Declared
+6 K P P P Msg => Declared
+6 L P P P Put => Declared
+2 0 p0 P 0 a => Declared
+2 0 p1 P 0 b => Declared
+4 1e-9 S p0 main => Entered
+4 2e-9 S p1 main => Entered
+7 3e-9 K 0 x p0 k 5 => Linked
+4 4e-9 S p0 f => Entered
+7 5e-9 L 0 x p1 k 6 => Linked
+8 6e-9 K 0 x p1 k => Linked
+5 7e-9 S p0 => Left(1)
+8 8e-9 L 0 x p0 k => Linked
+5 9e-9 S p0 => Left(1)
+5 9e-9 S p1 => Left(1)
+3 9e-9 P p0 => Left(0)
+3 10e-9 P p1 => Left(0)
+end 10
+container 0 10 0
+container 0 9 a
+container 0 10 b
+kind State
+link Msg
+link Put
+function main
+function f
+track 1 0
+track 2 0
+stream 0 9: [Enter(1, 1), Enter(2, 4), Leave(7), Leave(9)]
+stream 0 10: [Enter(1, 2), Leave(9)]
+send 0 k 1 3 5
+send 1 k 2 5 6
+receive 0 k 2 6 0
+receive 1 k 1 8 0
+";
+
 /// Two state types and two containers of one name, then others whose alias is that name.
 const TWINS: &str = "\
 0 P 0 Process => Declared
@@ -330,7 +369,7 @@ fn add_told(
     }
 }
 
-const TRACES: [&str; 13] = [
+const TRACES: [&str; 14] = [
     TWO_CALLS,
     OPEN_CALL,
     EMPTY_POP,
@@ -338,6 +377,7 @@ const TRACES: [&str; 13] = [
     DOUBLE_ALIAS,
     MESSAGES,
     LINK_TYPES,
+    CALLS_AND_MESSAGES,
     TWINS,
     ROOTS,
     VALUES,

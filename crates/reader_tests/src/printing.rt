@@ -25,14 +25,15 @@ fn add_parts(out: &mut String, trace: &TraceText) -> Result<(), Fail> {
 }
 
 fn add_generated(out: &mut String, alloc: Global, bundles: u32) -> Result<(), Fail> {
-    let trace = generate(alloc, 0, 4 * bundles.min(3))?;
+    let trace = generate(alloc, 0, 4 * bundles.min(4))?;
     let added = add_parts(out, &trace);
     drop(trace);
     added
 }
 
-/// No bundle; one; two, with a message; three. The third calls kernel 4, since the value behind three steps
-/// from 0 is 11166244414315200793.
+/// No bundle; one; two, with a message; three; four, with two messages. The third calls kernel 4, since the
+/// value behind three steps from 0 is 11166244414315200793, and the fourth kernel 3, since that behind four is
+/// 7401132627792533940.
 const GENERATED: &str = "\
 end 1000 with 65 128 0
 stream 0 1000: []
@@ -61,12 +62,24 @@ stream 0 7200: [Enter(1, 1000), Enter(2, 1100), Leave(2100), Leave(2200)]
 stream 0 7200: [Enter(1, 1000), Enter(3, 1100), Leave(6100), Leave(6200)]
 send 0 1 1 1000 8
 receive 0 1 2 2200 0
+end 7200 with 65 128 4
+function work
+function kernel 0
+function kernel 4
+function kernel 3
+stream 0 7200: [Enter(1, 1000), Enter(2, 1100), Leave(2100), Leave(2200)]
+stream 0 7200: [Enter(1, 1000), Enter(2, 1100), Leave(2100), Leave(2200)]
+stream 0 7200: [Enter(1, 1000), Enter(3, 1100), Leave(6100), Leave(6200)]
+send 0 1 1 1000 8
+receive 0 1 2 2200 0
+send 0 3 2 1000 32
+receive 0 3 3 5200 0
 ";
 
 #[test]
 fn generated_traces(rt: HostRuntime) -> Result<(), Fail> {
     let mut out = String::new(rt.alloc());
-    for bundles in 0..4u32 {
+    for bundles in 0..5u32 {
         add_generated(&mut out, rt.alloc(), bundles)?;
     }
     assert_eq!(rt; out.as_str(), GENERATED);
@@ -101,7 +114,8 @@ fn add_written(out: &mut String, alloc: Global, size: u32) -> Result<(), Fail>
 }
 
 /// No bundle; and two, where on both tracks of the first container `work` calls a kernel, and one bundle
-/// sends the other a message. The lines are those that another program writes for the same trace.
+/// sends the other a message. These lines are those that another program writes for the same trace. Then four,
+/// where the tracks of the second container have calls of two more kernels, and its message is worked by hand.
 const WRITTEN: &str = "\
 7096 Some(\"%EventDef PajeDefineContainerType 0\")
 7350 Some(\"%EventDef PajeDefineContainerType 0\")
@@ -115,6 +129,27 @@ const WRITTEN: &str = "\
 6 0.000002200 s1 c1
 8 0.000001000 l0 0 m c1 \"1\" 8
 9 0.000002200 l0 0 m c2 \"1\"
+7605 Some(\"%EventDef PajeDefineContainerType 0\")
+5 0.000001000 s0 c1 \"work\"
+5 0.000001100 s0 c1 \"kernel 0\"
+6 0.000002100 s0 c1
+6 0.000002200 s0 c1
+5 0.000001000 s1 c1 \"work\"
+5 0.000001100 s1 c1 \"kernel 0\"
+6 0.000002100 s1 c1
+6 0.000002200 s1 c1
+5 0.000001000 s0 c2 \"work\"
+5 0.000001100 s0 c2 \"kernel 4\"
+6 0.000006100 s0 c2
+6 0.000006200 s0 c2
+5 0.000001000 s1 c2 \"work\"
+5 0.000001100 s1 c2 \"kernel 3\"
+6 0.000005100 s1 c2
+6 0.000005200 s1 c2
+8 0.000001000 l0 0 m c1 \"1\" 8
+9 0.000002200 l0 0 m c2 \"1\"
+8 0.000001000 l0 0 m c2 \"3\" 32
+9 0.000005200 l0 0 m c3 \"3\"
 ";
 
 #[test]
@@ -122,6 +157,7 @@ fn texts_of_generated_traces(rt: HostRuntime) -> Result<(), Fail> {
     let mut out = String::new(rt.alloc());
     add_written(&mut out, rt.alloc(), 0)?;
     add_written(&mut out, rt.alloc(), 8)?;
+    add_written(&mut out, rt.alloc(), 16)?;
     assert_eq!(rt; out.as_str(), WRITTEN);
     Ok(())
 }

@@ -371,24 +371,34 @@ stream 0 1000000000: [Enter(1, 0), Enter(2, 100000000), Enter(1, 100000000), Lea
 Leave(500000000), Leave(500000000)]
 ";
 
-/// Definitions of link events behind the others, and a message from one container to another.
-const MESSAGE: &str = "\
+/// Definitions of link events behind the others; then calls of two containers, and a message from each to the
+/// other, of which the second is received before it is sent.
+const MESSAGES: &str = "\
 %EventDef PajeDefineLinkType 6\n% Alias string\n% Type string\n% SourceContainerType string\n\
 % DestContainerType string\n% Name string\n%EndEventDef\n%EventDef PajeStartLink 7\n% Time date\n\
 % Type string\n% Container string\n% Value string\n% SourceContainer string\n% Key string\n\
 % Size int\n%EndEventDef\n%EventDef PajeEndLink 8\n% Time date\n% Type string\n% Container string\n\
 % Value string\n% DestContainer string\n% Key string\n%EndEventDef\n6 K P P P Msg\n2 0 p0 P 0 a\n\
-2 0 p1 P 0 b\n7 1 K 0 x p0 k1 100\n8 1.5 K 0 x p1 k1\n";
+2 0 p1 P 0 b\n4 0.5 S p0 main\n7 1 K 0 x p0 k1 100\n4 1.5 S p1 main\n8 1.5 K 0 x p1 k1\n\
+4 2 S p0 f\n7 3 K 0 x p1 k2 7\n8 2.5 K 0 x p0 k2\n5 3 S p0\n5 3 S p0\n5 3 S p1\n";
 
-const MESSAGE_SAID: &str = "\
-end 1500000000
-container 0 1500000000 0
-container 0 1500000000 a
-container 0 1500000000 b
+const MESSAGES_SAID: &str = "\
+end 3000000000
+container 0 3000000000 0
+container 0 3000000000 a
+container 0 3000000000 b
 kind State
 link Msg
+function main
+function f
+track 1 0
+track 2 0
+stream 0 3000000000: [Enter(1, 500000000), Enter(2, 2000000000), Leave(3000000000), Leave(3000000000)]
+stream 0 3000000000: [Enter(1, 1500000000), Leave(3000000000)]
 send 0 k1 1 1000000000 100
 receive 0 k1 2 1500000000 0
+send 0 k2 2 3000000000 7
+receive 0 k2 1 2500000000 0
 ";
 
 #[test]
@@ -396,7 +406,7 @@ fn traces_of_texts(rt: HostRuntime) -> Result<(), Fail> {
     is_said(&rt, rt.alloc(), HEAD, CALLS, CALLS_SAID)?;
     is_said(&rt, rt.alloc(), SPACED_HEAD, SET, SET_SAID)?;
     is_said(&rt, rt.alloc(), SPACED_HEAD, PUSHED, PUSHED_SAID)?;
-    is_said(&rt, rt.alloc(), HEAD, MESSAGE, MESSAGE_SAID)
+    is_said(&rt, rt.alloc(), HEAD, MESSAGES, MESSAGES_SAID)
 }
 
 #[test]

@@ -76,6 +76,7 @@ pub fn answer(
     }
 }
 
+/// Adds the answer to a line.
 pub fn add_answer(out: &mut String, answer: Result<Effect, ModelFault>) -> Result<(), Fail> {
     match answer {
         Ok(effect) => write!(out, " {effect:?}")?,

@@ -2,8 +2,6 @@
 #![tactic(auto)]
 
 #[cfg(test)]
-mod counting;
-#[cfg(test)]
 mod fault;
 #[cfg(test)]
 mod hall;
@@ -17,6 +15,8 @@ mod nodes;
 mod samples;
 #[cfg(test)]
 mod shard;
+#[cfg(test)]
+mod told_work;
 #[cfg(test)]
 mod trees;
 #[cfg(test)]

@@ -1,7 +1,7 @@
 ghost use Rattle.std.specs.Prelude.{IfOk};
 ghost use Rattle.trace_base.specs.Stream.{IsLegal};
 
-use crate::counting::CountingHall;
+use crate::told_work::WorkTellingHall;
 use builders::build_track;
 use std::alloc::Global;
 use std::process::Abort;
@@ -47,7 +47,7 @@ fn nine_calls(alloc: Global) -> Result<TrackStream, Memory>
 // Builds the track twice: the root, main, the group of the first eight calls of f, and nine times f are
 // twelve nodes, and the hall has them all when they are interned again.
 fn build_twice<R: Abort + Wait>(
-    hall: &mut CountingHall,
+    hall: &mut WorkTellingHall,
     rt: &R,
     alloc: Global,
     s: &TrackStream,
@@ -65,6 +65,6 @@ fn build_twice<R: Abort + Wait>(
 #[test]
 fn nodes_are_interned_as_often_as_they_stand_in_a_tree(rt: HostRuntime) -> Result<(), Fail> {
     let s = nine_calls(rt.alloc())?;
-    let mut hall = CountingHall::new(rt.alloc())?;
+    let mut hall = WorkTellingHall::new(rt.alloc())?;
     build_twice(&mut hall, &rt, rt.alloc(), &s)
 }

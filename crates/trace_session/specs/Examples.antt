@@ -1,36 +1,14 @@
 -- The first session, on which the definitions are computed: a small trace, a profile of it, QUIT.
-use Rattle.std.specs.Prelude.{ℕ, List, [], ◌∷◌, ◌++◌, codes, flat_map}
+use Rattle.std.specs.Prelude.{ℕ, List, [], ◌∷◌, ◌++◌, codes}
 use Rattle.trace_base.specs.Examples as streams
 use Rattle.trace_base.specs.declared.text.TraceText.{TraceText}
 use Rattle.hall_history.specs.History.{Entry, Opened, Published, Sealed, Asked, published_tree}
 use Rattle.paje_lines.specs.Text.{info_of_text}
+use Rattle.paje_reader.specs.Examples.{two_calls_text}
 
--- the lines that define six events, a type of containers and one of states
-abbrev pub head_lines : List (List ℕ)
-head_lines =
-    codes "%EventDef PajeDefineContainerType 0" ∷ codes "% Alias string" ∷ codes "% Type string"
-    ∷ codes "% Name string" ∷ codes "%EndEventDef"
-    ∷ codes "%EventDef PajeDefineStateType 1" ∷ codes "% Alias string" ∷ codes "% Type string"
-    ∷ codes "% Name string" ∷ codes "%EndEventDef"
-    ∷ codes "%EventDef PajeCreateContainer 2" ∷ codes "% Time date" ∷ codes "% Alias string"
-    ∷ codes "% Type string" ∷ codes "% Container string" ∷ codes "% Name string" ∷ codes "%EndEventDef"
-    ∷ codes "%EventDef PajeDestroyContainer 3" ∷ codes "% Time date" ∷ codes "% Type string"
-    ∷ codes "% Name string" ∷ codes "%EndEventDef"
-    ∷ codes "%EventDef PajePushState 4" ∷ codes "% Time date" ∷ codes "% Type string"
-    ∷ codes "% Container string" ∷ codes "% Value string" ∷ codes "%EndEventDef"
-    ∷ codes "%EventDef PajePopState 5" ∷ codes "% Time date" ∷ codes "% Type string"
-    ∷ codes "% Container string" ∷ codes "%EndEventDef"
-    ∷ codes "0 P 0 Process" ∷ codes "1 S P State" ∷ []
-
--- main runs for half a second and calls f twice
-abbrev pub two_calls_lines : List (List ℕ)
-two_calls_lines =
-    codes "2 0 p0 P 0 \"rank 0\"" ∷ codes "4 0 S p0 main" ∷ codes "4 0.1 S p0 f" ∷ codes "5 0.2 S p0"
-    ∷ codes "4 0.3 S p0 f" ∷ codes "5 0.4 S p0" ∷ codes "5 0.5 S p0" ∷ codes "3 0.5 P p0" ∷ []
-
--- the text of the first trace
+-- the text of the first trace: main runs for half a second and calls f twice
 unfoldable pub first_text : List ℕ
-first_text = flat_map (λ line. line ++ 10 ∷ []) (head_lines ++ two_calls_lines)
+first_text = two_calls_text
 
 -- what the session reads
 unfoldable pub first_input : List ℕ

@@ -12,23 +12,23 @@ use trace_base::{Memory, TraceInfo};
 
 /// A hall with one owner that counts the nodes that are interned in it, those that it has already too.
 #[derive(Drop)]
-pub(crate) struct CountingHall {
+pub(crate) struct WorkTellingHall {
     hall: PlainHall,
     /// How many nodes were interned. Where no more can be counted, `intern` answers `Memory`.
     pub(crate) interned: u64,
 }
 
-impl CountingHall {
+impl WorkTellingHall {
     /// A hall without traces, in which nothing was interned.
-    pub(crate) fn new(alloc: Global) -> Result<CountingHall, Memory>
+    pub(crate) fn new(alloc: Global) -> Result<WorkTellingHall, Memory>
         ensures { IfOk result (λ counting. counting.interned ≡ 0) }
     {
         let hall = PlainHall::new(alloc)?;
-        Ok(CountingHall { hall, interned: 0 })
+        Ok(WorkTellingHall { hall, interned: 0 })
     }
 }
 
-impl Hall for CountingHall {
+impl Hall for WorkTellingHall {
     ghost use Rattle.std.specs.Prelude.{true, None, Some};
     ghost use Rattle.node_key.specs.Stands.{Stands};
     ghost use Rattle.node_store.specs.Given.{ever};
@@ -48,7 +48,7 @@ impl Hall for CountingHall {
 
     ghost rooms = { λ counting. Some counting.hall.nodes.rooms };
 
-    ghost legal = { λ counting. counting.hall.whole.kept.legal };
+    ghost legal = { λ counting. counting.hall.whole.legal };
 
     ghost room = { λ counting. room_left counting.hall.whole };
 

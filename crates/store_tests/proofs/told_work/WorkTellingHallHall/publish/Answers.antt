@@ -1,7 +1,7 @@
 use Rattle.std.proofs.Common.{refl}
 use Rattle.plain_hall.specs.PlainHall.{seat_of}
 use Rattle.store_tests.proofs.CountingWork.{promised_seen}
-use Rattle.store_tests.proofs.counting.CountingHallHall.publish.Goals as goal
+use Rattle.store_tests.proofs.told_work.WorkTellingHallHall.publish.Goals as goal
 
 pub returns-clause-work : goal.returns-clause-work
 returns-clause-work g c =
