@@ -15,14 +15,6 @@ fn a_list_grows_and_is_cleared(rt: HostRuntime) -> Result<(), Fail> {
 }
 
 #[test]
-fn an_item_of_a_list_is_changed_where_it_stands(rt: HostRuntime) -> Result<(), Fail> {
-    let mut list = Seq::from_slice(rt.alloc(), &[1u32, 2, 3])?;
-    *list.at_mut(1) = 7;
-    assert_eq!(rt; list.as_slice(), [1u32, 7, 3].as_slice());
-    Ok(())
-}
-
-#[test]
 fn a_name_has_its_bytes(rt: HostRuntime) -> Result<(), Fail> {
     let name = Name::from_bytes(rt.alloc(), b"main")?;
     assert!(rt; name.as_bytes() == b"main".as_slice());
