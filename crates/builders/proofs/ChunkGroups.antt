@@ -5,7 +5,7 @@ use Rattle.std.proofs.lemmas.List.{length-map}
 use Rattle.trace_base.specs.Outside.{Told}
 use Rattle.trace_base.proofs.Telling.{told_as, told_same}
 use Rattle.node_key.specs.Tree.{nodes}
-use Rattle.hall_trait.specs.Answers.{AddsNoWork, AddsWork}
+use Rattle.builders.specs.Builds.{AddsNoWork, AddsWork}
 use Rattle.node_key.specs.Bound.{group, start_of, stop_of}
 use Rattle.node_key.specs.Items.{FitBetween, node}
 use Rattle.hall_history.specs.Seat.{ExchangesStakes, Seat}

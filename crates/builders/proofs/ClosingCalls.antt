@@ -14,7 +14,7 @@ use Rattle.node_key.specs.declared.limits.TheConstants.{HEIGHT_BOUND}
 use Rattle.trace_base.specs.declared.limits.TheConstants.{MAX_TIME}
 use Rattle.trace_base.specs.Outside.{Told}
 use Rattle.trace_base.proofs.Telling.{told_as, told_then}
-use Rattle.hall_trait.specs.Answers.{AddsWork}
+use Rattle.builders.specs.Builds.{AddsWork}
 use Rattle.call_tree.specs.Passing.{closed_item}
 use Rattle.call_tree.proofs.Fits.{FitBetween-bound, FitBetween-lower, FitBetween-upper}
 use Rattle.call_tree.proofs.Fits.{low_bound}

@@ -1,6 +1,6 @@
 -- What interning and releasing does to stakes on items.
 use Rattle.std.proofs.Common.{◌≡◌, ℕ, ◌+◌, ◌-◌, ◌<◌, ◌⊎◌, inl, inr, List, [], ◌∷◌, map, All, drop}
-use Rattle.std.proofs.Common.{Option, Ok, Err, refl, sym, ap, subst, get_or, length, ◌∙◌}
+use Rattle.std.proofs.Common.{Ok, Err, refl, sym, ap, subst, get_or, length, ◌∙◌}
 use Rattle.std.proofs.lemmas.List.Elements.{All-cons, All-head, All-nil, All-tail}
 use Rattle.list_lemmas.proofs.Maps.{map_next}
 use Rattle.node_key.specs.Items.{node}
@@ -13,11 +13,11 @@ use Rattle.node_key.specs.declared.key.NodeKey.{NodeKey}
 use Rattle.node_key.specs.declared.limits.TheConstants.{HEIGHT_BOUND}
 use Rattle.shard_core.specs.declared.answers.Interned.{Interned}
 use Rattle.shard_core.specs.declared.answers.Interned.TheVariants.{Known, New}
-use Rattle.hall_trait.specs.Nodes.{InternRecords, StakesNode}
+use Rattle.hall_trait.specs.Nodes.{StakesNode}
 use Rattle.hall_trait.specs.declared.answers.HallFault.{HallFault}
 use Rattle.hall_trait.specs.declared.answers.HallFault.TheVariants as fault
 use Rattle.builders.specs.Built.{BuiltFitBetween, StoredItem, built, items_in, stake_on, stakes_held}
-use Rattle.builders.specs.Builds.{BuildRecords, BuildsItem, Holds, HoldsBetween}
+use Rattle.builders.specs.Builds.{BuildsItem, Holds, HoldsBetween}
 use Rattle.builders.specs.declared.built.BuiltItem.{BuiltItem}
 use Rattle.builders.proofs.Bags.{exchanges-among, exchanges-none, exchanges-then, has-among, has-given}
 use Rattle.builders.proofs.Placed.{fit-stored}
@@ -73,21 +73,10 @@ node-refused old new t kids (fault.Spent v) h = exchanges-none old new kids h
 node-refused old new t kids fault.Memory h = exchanges-none old new kids h
 node-refused old new t kids (fault.Full place) h = absurd h
 
-pub refusal-recorded : (old new : Seat) (was now : Option (List ℕ)) (t : Tree) (kids : List Stake)
-    (e : HallFault)
-    → StakesNode old new t kids (Err e) → InternRecords was now (Err e)
-    → BuildRecords {X = BuiltItem} was now (Err e)
-refusal-recorded old new was now t kids (fault.Spent v) h r = r
-refusal-recorded old new was now t kids fault.Memory h r = r
-refusal-recorded old new was now t kids (fault.Full place) h r = absurd h
-
 -- Stakes are given back from the front on: those that are left.
 abbrev pub Releasing : Seat → Seat → List BuiltItem → ℕ → Type 0
 Releasing old now items i = (stored : List StoredItem) → Holds old items stored
     → ExchangesStakes old now (stakes_held stored) (stakes_held (drop i stored))
-
-pub Releasing-start : (old : Seat) (items : List BuiltItem) → Releasing old old items 0
-Releasing-start old items stored h = exchanges-none old old (stakes_held stored) refl
 
 -- the stake on the next item is there
 pub Releasing-next : (old now : Seat) (items : List BuiltItem) (i : ℕ) (d : BuiltItem) → Releasing old now

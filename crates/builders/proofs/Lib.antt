@@ -12,3 +12,6 @@ pub mod BuildingTrack
 pub mod KeyReading
 pub mod PublishedTracks
 pub mod Spending
+pub mod BuildingViews
+pub mod OnlyReading
+pub mod KeepingOthers

@@ -1,44 +1,16 @@
 -- The numbers that the rooms of a store give, from one moment to the next.
-use Rattle.std.proofs.Common.{◌≡◌, ◌≤◌, ℕ, zero, suc, inl, inr, List, [], ◌∷◌, Option, None, Some}
+use Rattle.std.proofs.Common.{◌≡◌, ℕ, zero, suc, inl, inr, List, [], ◌∷◌, Option, None, Some}
 use Rattle.std.proofs.Common.{Err, refl, ap, arith, slice_get}
-use Rattle.std.specs.List.{AllZip}
 use Rattle.shard_core.specs.Interning.{IsSpent}
 use Rattle.shard_core.specs.Room.{Room}
 use Rattle.node_key.specs.Rooms.{room}
 use Rattle.node_key.specs.declared.key.NodeKey.{NodeKey}
-use Rattle.hall_trait.specs.Answers.{NextsRise}
-use Rattle.hall_trait.specs.Nodes.{InternSpends}
+use Rattle.hall_trait.specs.Nodes.{InternTells}
+use Rattle.hall_trait.specs.View.{NextsRise}
 use Rattle.hall_trait.specs.declared.answers.HallFault.{HallFault}
 use Rattle.hall_trait.specs.declared.answers.HallFault.TheVariants as fault
+use Rattle.hall_trait.proofs.Views.{Later}
 use Rattle.builders.specs.Spending.{BuildSpends, HasFullRoom, IsStoreSpent}
-
--- each room has given no fewer numbers at the later moment
-abbrev pub Later : List Room → List Room → Type 0
-Later was now = AllZip (λ (a b : Room). a.next ≤ b.next) was now
-
-later_same : (rs : List Room) → Later rs rs
-later_same [] = tt
-later_same (r ∷ rs) = (omega arith, later_same rs)
-
-later_then : (a b c : List Room) → Later a b → Later b c → Later a c
-later_then [] [] [] p q = tt
-later_then [] [] (z ∷ zs) p q = absurd q
-later_then [] (y ∷ ys) c p q = absurd p
-later_then (x ∷ xs) [] c p q = absurd p
-later_then (x ∷ xs) (y ∷ ys) [] p q = absurd q
-later_then (x ∷ xs) (y ∷ ys) (z ∷ zs) p q = (omega (arith, p.0, q.0), later_then xs ys zs p.1 q.1)
-
-pub nexts_same : (o : Option (List Room)) → NextsRise o o
-nexts_same None = tt
-nexts_same (Some rs) = later_same rs
-
-pub nexts_then : (a b c : Option (List Room)) → NextsRise a b → NextsRise b c → NextsRise a c
-nexts_then None None None p q = tt
-nexts_then None None (Some z) p q = absurd q
-nexts_then None (Some y) c p q = absurd p
-nexts_then (Some x) None c p q = absurd p
-nexts_then (Some x) (Some y) None p q = absurd q
-nexts_then (Some x) (Some y) (Some z) p q = later_then x y z p q
 
 -- a room that has given all its numbers has given them from then on
 full_later : (a b : List Room) → Later a b → HasFullRoom a → HasFullRoom b
@@ -70,7 +42,7 @@ spent_in : (rooms : List Room) (key : NodeKey) (v : ℕ) (r : Room) → slice_ge
 spent_in rooms key v r at (inl (new, full, is)) = inl (is, (room key, r, at, omega (arith, full)))
 spent_in rooms key v r at (inr (n, has, is)) = inr is
 
-refused : (rooms : Option (List Room)) (key : NodeKey) (e : HallFault) → InternSpends rooms key (Err e)
+refused : (rooms : Option (List Room)) (key : NodeKey) (e : HallFault) → InternTells rooms key (Err e)
     → BuildSpends {X = ℕ} rooms (Err e)
 refused rooms key fault.Memory spends = tt
 refused None key (fault.Spent v) spends = spends
@@ -78,5 +50,5 @@ refused (Some rooms) key (fault.Spent v) spends = spent_in rooms key v spends.0 
 refused rooms key (fault.Full place) spends = tt
 
 pub interned_spends : (a b : Option (List Room)) (key : NodeKey) (e : HallFault) → NextsRise a b
-    → InternSpends a key (Err e) → BuildSpends {X = ℕ} b (Err e)
+    → InternTells a key (Err e) → BuildSpends {X = ℕ} b (Err e)
 interned_spends a b key e rise spends = spends_later a b e rise (refused a key e spends)

@@ -10,9 +10,7 @@ use Rattle.node_key.specs.declared.stake.Stake.{Stake}
 use Rattle.node_key.specs.Tree.{Tree, height, nodes}
 use Rattle.node_key.specs.declared.item.Item.{Item}
 use Rattle.node_key.specs.declared.limits.TheConstants.{HEIGHT_BOUND, MAX_HEIGHT, MAX_KIDS}
-use Rattle.hall_trait.specs.Answers.{AddsWork, RecordsNone, RecordsUsedUp}
 use Rattle.hall_trait.specs.declared.answers.HallFault.{HallFault}
-use Rattle.hall_trait.specs.declared.answers.HallFault.TheVariants as fault
 use Rattle.builders.specs.Built.{StoredItem, built, items_in, stakes_held}
 use Rattle.builders.specs.declared.built.BuiltItem.{BuiltItem}
 
@@ -49,12 +47,12 @@ BuildsItems old new held items left (Ok bs) = (stored : List StoredItem) × (bs 
     × (items_in stored ≡ items) × ExchangesStakes old new held (stakes_held stored)
 BuildsItems old new held items left (Err e) = ExchangesStakes old new held left
 
--- what is recorded of the numbers that are used up; it isn't told that too many traces are open
-abbrev pub BuildRecords : {X : Type 0} → Option (List ℕ) → Option (List ℕ) → Result X HallFault → Type 0
-BuildRecords old new (Ok x) = RecordsNone old new
-BuildRecords old new (Err (fault.Spent v)) = RecordsUsedUp old new v
-BuildRecords old new (Err fault.Memory) = RecordsNone old new
-BuildRecords old new (Err (fault.Full place)) = ⊥
+-- where the hall counts what this seat did, so much was added, or nothing
+abbrev pub AddsWork : Option ℕ → Option ℕ → ℕ → Type 0
+AddsWork old new n = Told old new (λ was now. now ≡ was + n)
+
+abbrev pub AddsNoWork : Option ℕ → Option ℕ → Type 0
+AddsNoWork old new = new ≡ old
 
 -- the nodes of the trees of these items, each as often as it stands in them
 abbrev pub nodes_in : List Item → ℕ

@@ -1,9 +1,12 @@
-ghost use Rattle.std.specs.Prelude.{◌≡◌, ℕ, [], ◌∷◌, List, map};
+ghost use Rattle.std.specs.Prelude.{◌≡◌, ℕ, [], ◌∷◌, ◌++◌, List, map};
 ghost use Rattle.builders.specs.Spending.{BuildSpends};
-ghost use Rattle.hall_trait.specs.Answers.{NextsRise};
-ghost use Rattle.builders.specs.Builds.{BuildRecords, WorkOfTree};
+ghost use Rattle.builders.specs.Beside.{KeepsOthers};
+ghost use Rattle.builders.specs.Built.{stakes_held};
+ghost use Rattle.builders.specs.View.{GoesOnBuilding};
+ghost use Rattle.hall_trait.specs.Reach.{KeepsReach};
+ghost use Rattle.builders.specs.Builds.{WorkOfTree};
 ghost use Rattle.builders.specs.Calls.{BuildsTree, HoldsCalls, PassesOn, StoredCall, WorkOfEvent};
-ghost use Rattle.builders.specs.Calls.{passed};
+ghost use Rattle.builders.specs.Calls.{calls_stakes, passed};
 ghost use Rattle.node_key.specs.Trees.{tree};
 ghost use Rattle.trace_base.specs.Stream.{IsLegal};
 ghost use Rattle.trace_base.specs.declared.stream.Event.TheVariants.{Enter, Leave};
@@ -18,7 +21,7 @@ use trace_base::{Event, Seq, TrackStream};
 
 /// Takes the open calls over one Enter. `around` has those round the innermost one, which stands by itself.
 /// On a fault the stakes on the items of the innermost one are given back.
-#[tactic(auto, using(crate::proofs::Spending::nexts_same))]
+#[tactic(auto, using(crate::proofs::BuildingViews::working_same))]
 fn enter<R: Wait, H: Hall>(
     rt: &R,
     alloc: Global,
@@ -29,17 +32,21 @@ fn enter<R: Wait, H: Hall>(
     start: u64,
 ) -> Result<OpenCall, HallFault>
     requires { (calls : List StoredCall) × (call : StoredCall)
-        × HoldsCalls (H.seat hall.old) around.old.items innermost (Enter func start) calls call }
+        × HoldsCalls (H.view hall.old).seat around.old.items innermost (Enter func start) calls call }
     ensures answer { (calls : List StoredCall) (call : StoredCall)
-        → HoldsCalls (H.seat hall.old) around.old.items innermost (Enter func start) calls call
-        → PassesOn (H.seat hall.old) (H.seat hall.new) calls call (Enter func start) around.new.items result }
-    ensures records { BuildRecords (H.used_up hall.old) (H.used_up hall.new) result }
-    ensures nexts { NextsRise (H.rooms hall.old) (H.rooms hall.new) }
-    ensures spent { BuildSpends (H.rooms hall.new) result }
+        → HoldsCalls (H.view hall.old).seat around.old.items innermost (Enter func start) calls call
+        → PassesOn (H.view hall.old).seat (H.view hall.new).seat calls call (Enter func start)
+        around.new.items result }
+    ensures rest { GoesOnBuilding result (H.view hall.old) (H.view hall.new) }
+    ensures spent { BuildSpends (H.view hall.new).rooms result }
+    ensures reach { (calls : List StoredCall) (call : StoredCall)
+        → HoldsCalls (H.view hall.old).seat around.old.items innermost (Enter func start) calls call
+        → KeepsOthers (H.view hall.old).seat (calls_stakes calls ++ stakes_held call.stored)
+        (H.reaches hall.old) (H.reaches hall.new) }
     ensures work { (calls : List StoredCall) (call : StoredCall)
-        → HoldsCalls (H.seat hall.old) around.old.items innermost (Enter func start) calls call
-        → WorkOfEvent (H.work hall.old) (H.work hall.new) (map passed calls) (passed call)
-        (Enter func start) result }
+        → HoldsCalls (H.view hall.old).seat around.old.items innermost (Enter func start) calls call
+        → WorkOfEvent (H.view hall.old).account.work (H.view hall.new).account.work (map passed calls)
+        (passed call) (Enter func start) result }
 {
     match around.push(innermost) {
         Ok(()) => Ok(OpenCall {
@@ -65,17 +72,21 @@ fn leave<R: Wait, H: Hall>(
     stop: u64,
 ) -> Result<OpenCall, HallFault>
     requires { (calls : List StoredCall) × (call : StoredCall)
-        × HoldsCalls (H.seat hall.old) around.old.items innermost (Leave stop) calls call }
+        × HoldsCalls (H.view hall.old).seat around.old.items innermost (Leave stop) calls call }
     ensures answer { (calls : List StoredCall) (call : StoredCall)
-        → HoldsCalls (H.seat hall.old) around.old.items innermost (Leave stop) calls call
-        → PassesOn (H.seat hall.old) (H.seat hall.new) calls call (Leave stop) around.new.items result }
-    ensures records { BuildRecords (H.used_up hall.old) (H.used_up hall.new) result }
-    ensures nexts { NextsRise (H.rooms hall.old) (H.rooms hall.new) }
-    ensures spent { BuildSpends (H.rooms hall.new) result }
+        → HoldsCalls (H.view hall.old).seat around.old.items innermost (Leave stop) calls call
+        → PassesOn (H.view hall.old).seat (H.view hall.new).seat calls call (Leave stop)
+        around.new.items result }
+    ensures rest { GoesOnBuilding result (H.view hall.old) (H.view hall.new) }
+    ensures spent { BuildSpends (H.view hall.new).rooms result }
+    ensures reach { (calls : List StoredCall) (call : StoredCall)
+        → HoldsCalls (H.view hall.old).seat around.old.items innermost (Leave stop) calls call
+        → KeepsOthers (H.view hall.old).seat (calls_stakes calls ++ stakes_held call.stored)
+        (H.reaches hall.old) (H.reaches hall.new) }
     ensures work { (calls : List StoredCall) (call : StoredCall)
-        → HoldsCalls (H.seat hall.old) around.old.items innermost (Leave stop) calls call
-        → WorkOfEvent (H.work hall.old) (H.work hall.new) (map passed calls) (passed call)
-        (Leave stop) result }
+        → HoldsCalls (H.view hall.old).seat around.old.items innermost (Leave stop) calls call
+        → WorkOfEvent (H.view hall.old).account.work (H.view hall.new).account.work (map passed calls)
+        (passed call) (Leave stop) result }
 {
     let item = match close(rt, hall, innermost, stop) {
         Ok(item) => item,
@@ -97,16 +108,20 @@ fn step<R: Wait, H: Hall>(
     event: Event,
 ) -> Result<OpenCall, HallFault>
     requires { (calls : List StoredCall) × (call : StoredCall)
-        × HoldsCalls (H.seat hall.old) around.old.items innermost event calls call }
+        × HoldsCalls (H.view hall.old).seat around.old.items innermost event calls call }
     ensures answer { (calls : List StoredCall) (call : StoredCall)
-        → HoldsCalls (H.seat hall.old) around.old.items innermost event calls call
-        → PassesOn (H.seat hall.old) (H.seat hall.new) calls call event around.new.items result }
-    ensures records { BuildRecords (H.used_up hall.old) (H.used_up hall.new) result }
-    ensures nexts { NextsRise (H.rooms hall.old) (H.rooms hall.new) }
-    ensures spent { BuildSpends (H.rooms hall.new) result }
+        → HoldsCalls (H.view hall.old).seat around.old.items innermost event calls call
+        → PassesOn (H.view hall.old).seat (H.view hall.new).seat calls call event around.new.items result }
+    ensures rest { GoesOnBuilding result (H.view hall.old) (H.view hall.new) }
+    ensures spent { BuildSpends (H.view hall.new).rooms result }
+    ensures reach { (calls : List StoredCall) (call : StoredCall)
+        → HoldsCalls (H.view hall.old).seat around.old.items innermost event calls call
+        → KeepsOthers (H.view hall.old).seat (calls_stakes calls ++ stakes_held call.stored)
+        (H.reaches hall.old) (H.reaches hall.new) }
     ensures work { (calls : List StoredCall) (call : StoredCall)
-        → HoldsCalls (H.seat hall.old) around.old.items innermost event calls call
-        → WorkOfEvent (H.work hall.old) (H.work hall.new) (map passed calls) (passed call) event result }
+        → HoldsCalls (H.view hall.old).seat around.old.items innermost event calls call
+        → WorkOfEvent (H.view hall.old).account.work (H.view hall.new).account.work (map passed calls)
+        (passed call) event result }
 {
     match event {
         Event::Enter(func, start) => enter(rt, alloc, hall, around, innermost, func, start),
@@ -117,7 +132,7 @@ fn step<R: Wait, H: Hall>(
 /// Interns the bounded tree of a legal stream, in one pass over its events: the node of each call when it is
 /// left, and each group of calls when there are more than 8 in a row. It answers the number of the root, on
 /// which there is a new stake. On a fault, which is `Memory`, or `Spent` as `intern` tells it, all stakes are
-/// as before. The tree isn't made.
+/// as before. What the seat reached by the stakes and pins that it had, it reaches still. No tree is made.
 pub fn build_track<R: Wait, H: Hall>(
     rt: &R,
     alloc: Global,
@@ -125,11 +140,12 @@ pub fn build_track<R: Wait, H: Hall>(
     s: &TrackStream,
 ) -> Result<u64, HallFault>
     requires { IsLegal s.now }
-    ensures answer { BuildsTree (H.seat hall.old) (H.seat hall.new) (tree s.now) result }
-    ensures records { BuildRecords (H.used_up hall.old) (H.used_up hall.new) result }
-    ensures nexts { NextsRise (H.rooms hall.old) (H.rooms hall.new) }
-    ensures spent { BuildSpends (H.rooms hall.new) result }
-    ensures work { WorkOfTree (H.work hall.old) (H.work hall.new) (tree s.now) result }
+    ensures answer { BuildsTree (H.view hall.old).seat (H.view hall.new).seat (tree s.now) result }
+    ensures rest { GoesOnBuilding result (H.view hall.old) (H.view hall.new) }
+    ensures spent { BuildSpends (H.view hall.new).rooms result }
+    ensures reach { KeepsReach (H.view hall.old).seat (H.reaches hall.old) (H.reaches hall.new) }
+    ensures work { WorkOfTree (H.view hall.old).account.work (H.view hall.new).account.work (tree s.now)
+        result }
 {
     let mut around = Vec::new(alloc);
     let mut innermost = OpenCall {

@@ -1,11 +1,11 @@
 ghost use Rattle.std.specs.Prelude.{◌≡◌, ◌+◌, ◌≤◌, ◌<◌, ◌==◌, ◌++◌, ◌∷◌, [], ℕ, if◌then◌else◌, take, Some};
 ghost use Rattle.std.specs.Prelude.{Contains, IfOk, IfSome, OnOk};
-ghost use Rattle.hall_trait.specs.Answers.{AddsNoWork, NextsRise, RecordsNone};
-ghost use Rattle.hall_trait.specs.Nodes.{ReadsNode};
 ghost use Rattle.hall_trait.specs.Pin.{first_id, pin_view};
+ghost use Rattle.hall_trait.specs.Reach.{KeepsReach, Source};
 ghost use Rattle.node_key.specs.Events.{events};
-ghost use Rattle.hall_history.specs.History.{FitsTrack, stream_of};
+ghost use Rattle.hall_history.specs.History.{FitsTrack, stream_of, tracks_of};
 ghost use Rattle.node_key.specs.Tree.{Tree};
+ghost use Rattle.builders.specs.Reads.{IsRead, IsReached, OnlyReads};
 
 use hall_trait::{Hall, Pin, Published};
 use node_key::NodeKey;
@@ -31,15 +31,14 @@ fn push_events<R: Wait, H: Hall>(
     at: u64,
     list: &mut Seq<Event>,
 ) -> Result<(), Memory>
-    requires leads { (t : Tree) × ReadsNode (H.reaches hall.old) t key.now }
+    requires leads { (by_what : Source) × (t : Tree)
+        × IsRead (H.view hall.old).seat (H.reaches hall.old) by_what t key.now }
     requires in_time { at + key.now.dur ≤ MAX_TIME }
-    ensures answer { (t : Tree) → ReadsNode (H.reaches hall.old) t key.now
+    ensures answer { (by_what : Source) (t : Tree)
+        → IsRead (H.view hall.old).seat (H.reaches hall.old) by_what t key.now
         → OnOk result (list.new ≡ list.old ++ events t at) }
-    ensures kept { (m : ℕ) (t : Tree) → H.reaches hall.old m t → H.reaches hall.new m t }
-    ensures same { H.seat hall.new ≡ H.seat hall.old }
-    ensures records { RecordsNone (H.used_up hall.old) (H.used_up hall.new) }
-    ensures nexts { NextsRise (H.rooms hall.old) (H.rooms hall.new) }
-    ensures work { AddsNoWork (H.work hall.old) (H.work hall.new) }
+    ensures rest { OnlyReads (H.view hall.old) (H.view hall.new) }
+    ensures reach { KeepsReach (H.view hall.new).seat (H.reaches hall.old) (H.reaches hall.new) }
 {
     let end = at + key.dur;
     push_of_call(list, key.func, Event::Enter(key.func, at))?;
@@ -55,7 +54,7 @@ fn push_events<R: Wait, H: Hall>(
 }
 
 /// Adds the events of the tree of the node `n`, which begins at `at`, in nanoseconds, and ends within the
-/// greatest time. The hall keeps what it has, but reaches the nodes below from then on.
+/// greatest time. The seat stays, and reaches the nodes below by the same stake or pin from then on.
 pub fn events_of_number<R: Wait, H: Hall>(
     rt: &R,
     hall: &mut H,
@@ -63,13 +62,13 @@ pub fn events_of_number<R: Wait, H: Hall>(
     at: u64,
     list: &mut Seq<Event>,
 ) -> Result<(), Memory>
-    requires { (t : Tree) × H.reaches hall.old n t × (at + t.dur ≤ MAX_TIME) }
-    ensures answer { (t : Tree) → H.reaches hall.old n t → OnOk result (list.new ≡ list.old ++ events t at) }
-    ensures kept { (m : ℕ) (t : Tree) → H.reaches hall.old m t → H.reaches hall.new m t }
-    ensures same { H.seat hall.new ≡ H.seat hall.old }
-    ensures records { RecordsNone (H.used_up hall.old) (H.used_up hall.new) }
-    ensures nexts { NextsRise (H.rooms hall.old) (H.rooms hall.new) }
-    ensures work { AddsNoWork (H.work hall.old) (H.work hall.new) }
+    requires { (by_what : Source) × (t : Tree)
+        × IsReached (H.view hall.old).seat (H.reaches hall.old) by_what n t × (at + t.dur ≤ MAX_TIME) }
+    ensures answer { (by_what : Source) (t : Tree)
+        → IsReached (H.view hall.old).seat (H.reaches hall.old) by_what n t
+        → OnOk result (list.new ≡ list.old ++ events t at) }
+    ensures rest { OnlyReads (H.view hall.old) (H.view hall.new) }
+    ensures reach { KeepsReach (H.view hall.new).seat (H.reaches hall.old) (H.reaches hall.new) }
 {
     let key = hall.read(rt, n);
     push_events(rt, hall, &key, at, list)
@@ -84,16 +83,15 @@ pub fn published_stream<R: Wait, H: Hall>(
     pin: &Pin,
     track: u32,
 ) -> Result<Option<TrackStream>, Memory>
-    requires has { Contains (H.seat hall.old).pins (pin_view pin.now) }
-    requires within { track < pin.now.first.tracks }
-    ensures stream { IfOk result (λ s. s ≡ stream_of (take pin.now.place (H.seat hall.old).seen)
+    requires has { Contains (H.view hall.old).seat.pins (pin_view pin.now) }
+    requires within { track < tracks_of (take pin.now.place (H.view hall.old).seat.seen)
+        (first_id pin.now.ids) }
+    ensures stream { IfOk result (λ s. s ≡ stream_of (take pin.now.place (H.view hall.old).seat.seen)
         (first_id pin.now.ids) track) }
-    ensures fits { IfOk result (λ r. IfSome r (λ s. FitsTrack (take pin.now.place (H.seat hall.old).seen)
+    ensures fits { IfOk result (λ r. IfSome r (λ s. FitsTrack (take pin.now.place (H.view hall.old).seat.seen)
         (first_id pin.now.ids) track s)) }
-    ensures same { H.seat hall.new ≡ H.seat hall.old }
-    ensures records { RecordsNone (H.used_up hall.old) (H.used_up hall.new) }
-    ensures nexts { NextsRise (H.rooms hall.old) (H.rooms hall.new) }
-    ensures work { AddsNoWork (H.work hall.old) (H.work hall.new) }
+    ensures rest { OnlyReads (H.view hall.old) (H.view hall.new) }
+    ensures reach { KeepsReach (H.view hall.new).seat (H.reaches hall.old) (H.reaches hall.new) }
 {
     match hall.published(rt, pin, 0, track) {
         Published::NotYet => Ok(None),

@@ -1,9 +1,9 @@
 -- The chunks of a list, one after the other.
 use Rattle.std.proofs.Common.{◌≡◌, ℕ, ◌+◌, ◌*◌, ◌/◌, ◌<◌, ◌≤◌, zero, suc, List, [], ◌∷◌, ◌++◌, length}
 use Rattle.std.proofs.Common.{take, drop, map, refl}
-use Rattle.std.proofs.Common.{sym, ap, ◌∙◌, arith, length-drop, append-nil, cond, inl, inr, Bool}
-use Rattle.std.proofs.Common.{get_or, take_all}
-use Rattle.std.proofs.lemmas.List.{drop-drop, drop_all, length-map}
+use Rattle.std.proofs.Common.{sym, ap, ◌∙◌, arith, length-drop, cond, inl, inr, Bool}
+use Rattle.std.proofs.Common.{get_or}
+use Rattle.std.proofs.lemmas.List.{drop-drop, length-map}
 use Rattle.std.proofs.Math.Seq.{take-append_seam, drop-append_seam}
 use Rattle.std.proofs.lemmas.List.FromFn.{length-map-range_with_len}
 use Rattle.std.proofs.lemmas.Bool.{cases_lt, le-leb}
@@ -106,14 +106,6 @@ front_of c rest all e n = (
   sym (take-append_seam c rest) ∙ ap (λ (k : ℕ). take k (c ++ rest)) n ∙ ap (take 8) e,
   sym (drop-append_seam c rest) ∙ ap (λ (k : ℕ). drop k (c ++ rest)) n ∙ ap (drop 8) e,
 )
-
--- where at most 8 are left they are a chunk
-pub front_all : (c rest all : List Item) → c ++ rest ≡ all → rest ≡ [] → length c ≤ 8 → (c ≡ take 8 all)
-    × (rest ≡ drop 8 all)
-front_all c rest all e none n =
-    let same : c ≡ all = sym (append-nil c) ∙ ap (λ (l : List Item). c ++ l) (sym none) ∙ e in
-    let few : length all ≤ 8 = omega (arith, ap length same) in
-    (same ∙ sym (take_all 8 all few), none ∙ sym (drop_all 8 all few))
 
 -- when the last item ends
 pub stop_of-last : (is : List Item) (n : ℕ) (d : Item) → length is ≡ suc n

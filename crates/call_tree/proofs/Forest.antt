@@ -1,7 +1,7 @@
 -- Lists of calls in one another: their events, and how many of these are Enters and Leaves.
-use Rattle.std.proofs.Common.{◌≡◌, ℕ, ◌+◌, ◌≤◌, zero, suc, List, [], ◌∷◌, ◌++◌, length, take}
+use Rattle.std.proofs.Common.{◌≡◌, ℕ, ◌+◌, ◌≤◌, zero, suc, List, [], ◌∷◌, ◌++◌, take}
 use Rattle.std.proofs.Common.{refl, sym, subst}
-use Rattle.std.proofs.Common.{arith, append_assoc, append-nil, length-append, not}
+use Rattle.std.proofs.Common.{arith, append_assoc, append-nil, not}
 use Rattle.std.proofs.Common.{cond}
 use Rattle.std.specs.Prelude.{count_by}
 use Rattle.std.proofs.lemmas.List.Sums.{sum_by-cons}
@@ -79,17 +79,6 @@ leaves-flat (call f t A u B) =
       enters-append (flat A) (Leave u ∷ flat B),
       leaves-flat A,
       leaves-flat B,
-    )
-
-pub length-flat : (F : Forest) → length (flat F) ≡ enters (flat F) + enters (flat F)
-length-flat none = refl
-length-flat (call f t A u B) =
-    omega (
-      arith,
-      length-append (flat A) (Leave u ∷ flat B),
-      enters-append (flat A) (Leave u ∷ flat B),
-      length-flat A,
-      length-flat B,
     )
 
 -- with d calls open before, no front of the events has a Leave too many

@@ -19,7 +19,7 @@ use Rattle.node_key.specs.Branches.{kids_of}
 use Rattle.node_key.specs.Items.{end_of, branches_from, node}
 use Rattle.node_key.specs.declared.item.Item.{Item}
 use Rattle.node_key.specs.declared.tree.Branch.{Branch}
-use Rattle.node_key.specs.Bound.{group, grouped, bound, start_of, stop_of}
+use Rattle.node_key.specs.Bound.{group, grouped, bound, stop_of}
 use Rattle.node_key.specs.Events.{events, events_below, enclosed}
 use Rattle.call_tree.specs.Laws.{moved, since}
 use Rattle.call_tree.proofs.Chunks.{grouped-some, grouped-none, length-grouped, by_chunks, bound-few}
@@ -91,10 +91,6 @@ node-later func start end a is =
     } in t) dur
     ∙ ap (λ (bs : List Branch). let t : Tree = record { func = func; dur = end - start; kids = kids_of bs }
     in t) (branches-later a start is)
-
-start_of-later : (a : ℕ) (i : Item) (is : List Item) → start_of (map (later a) (i ∷ is)) ≡ start_of (i ∷ is)
-    + a
-start_of-later a i is = refl
 
 stop_of-later : (a : ℕ) (i : Item) (is : List Item) → stop_of (map (later a) (i ∷ is)) ≡ stop_of (i ∷ is) + a
 stop_of-later a i [] = omega arith

@@ -9,7 +9,7 @@ use Rattle.list_lemmas.proofs.All.{All-at}
 use Rattle.node_key.specs.Stands.{Stands}
 use Rattle.node_key.specs.declared.limits.TheConstants.{MAX_NUMBERS}
 use Rattle.node_key.specs.declared.stake.Stake.{Stake}
-use Rattle.store_laws.specs.Store.{IsCanonic, key_in}
+use Rattle.store_laws.specs.Store.{key_in}
 use Rattle.store_laws.proofs.CanonicTrees.{one_tree}
 use Rattle.store_laws.proofs.StepsFromNothing.{nothing}
 use Rattle.hall_core.specs.OneTree.{OneTreeEach}

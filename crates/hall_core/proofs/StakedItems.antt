@@ -165,8 +165,8 @@ pub record AreItems (key : NodeKey) (t : Tree) (items : List Item) : Type 0 wher
 -- all kids are done
 pub items-end : (stakes : List Stake) (key : NodeKey) (items : List Item) (from i : ℕ)
     → ItemsSoFar stakes key items from i → length (kids_in key) ≤ i → (t : Tree) (kids : List Stake)
-    → IsStakedTree stakes key t kids → AreItems key t items
-items-end stakes key items from i s all t kids staked =
+    → IsStakedTree stakes key t kids → key.height ≤ HEIGHT_BOUND → AreItems key t items
+items-end stakes key items from i s all t kids staked low =
     let ks = kids_in key in
     let tree = tree_over stakes key t kids staked in
     let none : drop i ks ≡ [] = drop_all i ks all in
@@ -179,6 +179,6 @@ items-end stakes key items from i s all t kids staked =
     subst (AreItems key t) whole (record {
       few = omega (arith, items_long ks kids 0, tree.len, key.few);
       within = items_fit stakes ks kids 0 key.dur tree.on (omega (arith, spans_within key));
-      low = items_low ks kids 0 HEIGHT_BOUND (omega (arith, high, staked.low));
+      low = items_low ks kids 0 HEIGHT_BOUND (omega (arith, high, low, staked.over.key_of.height));
       made = λ j. record { func = func j; dur = dur j; kids = made j };
     })

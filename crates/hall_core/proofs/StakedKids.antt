@@ -8,7 +8,6 @@ use Rattle.node_key.specs.Stakes.{stake}
 use Rattle.node_key.specs.Tree.{Tree, height, height_above}
 use Rattle.node_key.specs.declared.key.Kid.{Kid}
 use Rattle.node_key.specs.declared.key.NodeKey.{NodeKey}
-use Rattle.node_key.specs.declared.limits.TheConstants.{HEIGHT_BOUND}
 use Rattle.node_key.specs.declared.stake.Stake.{Stake}
 use Rattle.store_laws.specs.Counted.{stakes_on}
 use Rattle.store_laws.specs.Store.{kids_in}
@@ -91,7 +90,7 @@ wanting stakes key i d one below want t kids staked =
 -- all kids are done
 pub so_far-end : (stakes : List Stake) (key : NodeKey) (high i : ℕ) → OneTreeEach stakes
     → StakedSoFar stakes (kids_in key) high i → length (kids_in key) ≤ i → length (kids_in key) ≡ key.len
-    → (key.height ≡ high) × (high ≤ HEIGHT_BOUND)
+    → (key.height ≡ high)
     ↔ ((t : Tree) × (kids : List Stake) × IsStakedTree stakes key t kids)
 so_far-end stakes key high i one s all len =
     let ks = kids_in key in
@@ -102,15 +101,9 @@ so_far-end stakes key high i one s all len =
     let enough = subst (λ (js : List Kid). All (IsEnough stakes ks) js) whole s.enough in
     let each = λ (k : Kid) (there : Contains ks k). All-contains (IsEnough stakes ks) ks k enough there in
     let has = has_enough stakes ks s.kids one on each in (
-      λ (same, low). (
-        tree_of key s.kids,
-        s.kids,
-        staked_over stakes key s.kids on has len (same ∙ is) (omega (arith, same, low)),
-      ),
+      λ same. (tree_of key s.kids, s.kids, staked_over stakes key s.kids on has len (same ∙ is)),
       λ (t, kids, staked).
           let over = tree_over stakes key t kids staked in
           let same = same_stakes stakes ks kids s.kids one over.on on in
-          let high' : key.height ≡ high = over.high
-          ∙ ap (λ (xs : List Stake). height_above (kids_over ks xs)) same ∙ sym is in
-          (high', omega (arith, high', staked.low, staked.over.key_of.height)),
+          over.high ∙ ap (λ (xs : List Stake). height_above (kids_over ks xs)) same ∙ sym is,
     )

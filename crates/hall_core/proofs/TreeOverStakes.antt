@@ -1,5 +1,5 @@
 -- The tree over stakes on the kids of a key. Where a number tells the stake, there is at most one.
-use Rattle.std.proofs.Common.{◌≡◌, ℕ, ◌≤◌, ◌<◌, Contains, List, [], ◌∷◌, length, map}
+use Rattle.std.proofs.Common.{◌≡◌, ℕ, ◌<◌, Contains, List, [], ◌∷◌, length, map}
 use Rattle.std.proofs.Common.{refl, sym, ap, subst, ◌∙◌, arith, zero, suc, zero-lt-suc, get_or}
 use Rattle.std.specs.List.{AllZip}
 use Rattle.std.proofs.lemmas.List.Elements.{Contains-append_right, Contains-get_or}
@@ -10,7 +10,6 @@ use Rattle.node_key.specs.Tree.{Kids, Tree, count, height_above, kid, no_kids}
 use Rattle.node_key.specs.declared.key.Kid.{Kid}
 use Rattle.node_key.specs.declared.key.NodeKey.{NodeKey}
 use Rattle.node_key.specs.declared.stake.Stake.{Stake}
-use Rattle.node_key.specs.declared.limits.TheConstants.{HEIGHT_BOUND}
 use Rattle.node_key.proofs.Numbering.{length-numbered}
 use Rattle.store_laws.specs.Store.{kids_in}
 use Rattle.store_laws.proofs.SumsOfStakes.{among_held}
@@ -191,9 +190,9 @@ tree_of key kids = record { func = key.func; dur = key.dur; kids = kids_over (ki
 -- stakes that are there, on the kids of a key that is as high as it says, are those under its tree
 pub staked_over : (stakes : List Stake) (key : NodeKey) (kids : List Stake)
     → AllZip (IsKidStake stakes) (kids_in key) kids → HasStakes stakes kids → length (kids_in key) ≡ key.len
-    → key.height ≡ height_above (kids_over (kids_in key) kids) → key.height ≤ HEIGHT_BOUND
+    → key.height ≡ height_above (kids_over (kids_in key) kids)
     → IsStakedTree stakes key (tree_of key kids) kids
-staked_over stakes key kids on has len high low =
+staked_over stakes key kids on has len high =
     let counted = count-over stakes (kids_in key) kids on in
     record {
       over = record {
@@ -208,5 +207,4 @@ staked_over stakes key kids on has len high low =
         kids = trees-over stakes (kids_in key) kids on;
       };
       has = has;
-      low = omega (arith, high, low);
     }

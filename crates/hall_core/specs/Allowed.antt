@@ -20,9 +20,9 @@ pub record IsActive (w : World) (at : ℕ) (seat : SeatView) : Type 0 where
 abbrev pub MayEnd : World → ℕ → ℕ → Type 0
 MayEnd w actor other = (other ≢ actor) × (s : SeatView) × IsActive w other s × (s.pins ≡ []) × (s.passes ≡ [])
 
--- What a seat must have for an event: stakes on the kids of a tree, none of which is higher than trees are,
--- to intern it; what reaches a node, to read it; a stake on a node, to drop it; and another seat, to join it.
--- No seat has a load pass as yet that it may split.
+-- What a seat must have for an event: stakes on the kids of a tree, to intern it; what reaches a node, to read
+-- it; a stake on a node, to drop it; and another seat, to join it. No seat has a load pass as yet that it may
+-- split.
 abbrev pub MayMake : World → ℕ → SeatView → HallEvent → Type 0
 MayMake w actor seat (event.Intern key) =
     (t : Tree) × (kids : List Stake) × IsStakedTree seat.stakes key t kids

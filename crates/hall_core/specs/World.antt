@@ -5,7 +5,7 @@ use Rattle.node_key.specs.declared.stake.Stake.{Stake}
 use Rattle.store_laws.specs.Counted.{IsStore}
 use Rattle.store_laws.specs.Store.{empty_store}
 use Rattle.registry_core.specs.Registry.{new_registry}
-use Rattle.hall_core.specs.declared.limits.TheConstants.{MEMO_ROOMS}
+use Rattle.memo_core.specs.declared.limits.TheConstants.{MEMO_ROOMS}
 use Rattle.hall_core.specs.declared.world.HallState.{HallState}
 use Rattle.hall_core.specs.declared.world.SeatView.{SeatView}
 use Rattle.hall_core.specs.declared.world.World.{World}

@@ -5,7 +5,6 @@ mod allowed;
 mod events;
 mod examples;
 mod laws;
-mod limits;
 mod nodes;
 mod reach;
 mod rooms;
@@ -26,7 +25,7 @@ pub use laws::{
     equal_subtrees_are_one_node, new_halls_are_good, steps_keep_worlds_good,
     stored_is_what_is_reached, stores_are_kept,
 };
-pub use limits::MEMO_ROOMS;
+pub use memo_core::MEMO_ROOMS;
 pub use run::run_events;
 pub use stepping::step;
 pub use world::{HallState, SeatView, World};

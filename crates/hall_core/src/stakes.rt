@@ -10,7 +10,7 @@ ghost use Rattle.store_laws.specs.Counted.{stakes_on};
 ghost use Rattle.store_laws.specs.Store.{kids_in};
 ghost use Rattle.hall_core.specs.OneTree.{IsStakedTree, OneTreeEach};
 
-use node_key::{CallTree, HEIGHT_BOUND, Item, Kid, NodeKey, Stake};
+use node_key::{CallTree, Item, Kid, NodeKey, Stake};
 use std::alloc::Global;
 use trace_base::{Memory, Seq};
 
@@ -77,14 +77,14 @@ pub(crate) fn is_staked(stakes: &[Stake], key: &NodeKey) -> bool
     requires { OneTreeEach stakes.now }
     ensures { IsTrue result ↔ ((t : Tree) × (kids : List Staked) × IsStakedTree stakes.now key.now t kids) }
 {
-    let mut height: u16 = 0;
+    let mut height: u32 = 0;
     for kid in &key.kids[..key.len as usize] {
         let Some(tree) = kid_tree(stakes, key, *kid) else {
             return false;
         };
-        height = height.max(tree.height() + 1);
+        height = height.max(u32::from(tree.height()) + 1);
     }
-    key.height == height && height <= HEIGHT_BOUND
+    u32::from(key.height) == height
 }
 
 /// The tree of the key over the stakes.

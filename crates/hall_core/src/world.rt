@@ -1,12 +1,11 @@
 ghost use Rattle.std.specs.Prelude.{◌≡◌, ◌≤◌, [], IfOk, replicate};
-ghost use Rattle.hall_core.specs.declared.limits.TheConstants.{MEMO_ROOMS};
+ghost use Rattle.memo_core.specs.declared.limits.TheConstants.{MEMO_ROOMS};
 ghost use Rattle.node_key.specs.declared.limits.TheConstants.{MAX_NUMBERS};
 ghost use Rattle.hall_core.specs.World.{empty_seat, new_state, new_world};
 ghost use Rattle.store_laws.specs.Store.{empty_store};
 
-use crate::limits::MEMO_ROOMS;
 use hall_history::{PassView, PinView};
-use memo_core::Memo;
+use memo_core::{MEMO_ROOMS, Memo};
 use node_key::{STORE_ROOMS, Stake};
 use registry_core::Registry;
 use shard_core::Shard;

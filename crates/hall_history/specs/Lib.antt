@@ -1,4 +1,5 @@
 pub mod Examples
 pub mod History
 pub mod Left
+pub mod Listing
 pub mod Seat

@@ -30,9 +30,6 @@ Track-set = Coded-set track.the_row.coded
 pub TraceInfo-set : IsSet TraceInfo
 TraceInfo-set = Coded-set info.the_row.coded
 
-pub TrackStream-set : IsSet TrackStream
-TrackStream-set = Coded-set stream.the_row.coded
-
 -- what is published is stored as a pair
 published_code : Coded PublishedTree
 published_code = code_by (ℕ × Tree) (coded× coded_ℕ tree_code) (λ p. (p.start, p.tree))

@@ -1,3 +1,3 @@
 pub mod HistoryProps
-pub mod Nexts
 pub mod PublishedStreams
+pub mod Views

@@ -1,31 +1,34 @@
--- What each call of a hall answers, and what it does to the seat. `alone` says that no other seat acts in
--- this hall.
-use Rattle.std.specs.Prelude.{◌≡◌, ℕ, ◌+◌, ◌≤◌, ◌<◌, ◌⊎◌, Bool, false, List, [], ◌∷◌, ◌++◌, length}
+-- What each call of a hall answers, what it does to the seat, and what it adds to what the seat's calls came
+-- to. `alone` says that no other seat acts in this hall.
+use Rattle.std.specs.Prelude.{◌≡◌, ℕ, ◌+◌, ◌≤◌, ◌<◌, ◌⊎◌, Bool, false, List, [], ◌∷◌, length}
 use Rattle.std.specs.Prelude.{Option, Some, Result, Ok, Err, IsTrue}
 use Rattle.std.specs.Bool.{OnTrue}
-use Rattle.std.specs.List.{AllZip}
-use Rattle.trace_base.specs.Outside.{Told}
+use Rattle.std.specs.Option.{option_map}
 use Rattle.hall_history.specs.declared.asks.AskIds.{AskIds}
 use Rattle.hall_history.specs.declared.asks.AskIds.TheVariants.{One, Two}
+use Rattle.hall_history.specs.declared.listing.Listing.{Listing}
 use Rattle.trace_base.specs.declared.limits.TheConstants.{MAX_OPEN_TRACES, MAX_PLACES}
 use Rattle.trace_base.specs.declared.names.TraceInfo.{TraceInfo}
 use Rattle.trace_base.specs.declared.stream.TrackStream.{TrackStream}
 use Rattle.hall_history.specs.History.{Entry, EntryOf, Opened, Published, Sealed, Dropped, Closed, Asked}
-use Rattle.hall_history.specs.History.{FitsTrack, next_id, info_of, is_open, open_ids, tracks_of}
+use Rattle.hall_history.specs.History.{FitsTrack, next_id, info_of, is_loading, is_open, open_ids, tracks_of}
 use Rattle.hall_history.specs.History.{promised, published_tree}
+use Rattle.hall_history.specs.Listing.{listed_rows}
 use Rattle.hall_history.specs.Seat.{Seat, MakesEntry, Adds, Becomes}
 use Rattle.hall_history.specs.declared.seat.PassView.{PassView}
 use Rattle.node_key.specs.Stakes.{Exchanges, HasStakes, stake}
 use Rattle.node_key.specs.Trees.{tree}
-use Rattle.shard_core.specs.Room.{Room}
 use Rattle.hall_trait.specs.Pass.{pass_view, IsFresh, advanced}
 use Rattle.hall_trait.specs.Pin.{pin_view, first_id, second_id}
+use Rattle.hall_trait.specs.View.{Account, with_used_up, with_work}
 use Rattle.hall_trait.specs.declared.pass.LoadPass.{LoadPass}
 use Rattle.hall_trait.specs.declared.pin.Pin.{Pin}
 use Rattle.hall_trait.specs.declared.answers.HallFault.{HallFault}
 use Rattle.hall_trait.specs.declared.answers.HallFault.TheVariants as fault
 use Rattle.hall_trait.specs.declared.answers.AskAnswer.{AskAnswer}
 use Rattle.hall_trait.specs.declared.answers.AskAnswer.TheVariants as answer
+use Rattle.hall_trait.specs.declared.answers.CloseAnswer.{CloseAnswer}
+use Rattle.hall_trait.specs.declared.answers.CloseAnswer.TheVariants as close
 
 -- ---- places
 
@@ -44,26 +47,6 @@ HasRoom entries n = places_taken entries + n ≤ MAX_PLACES
 -- n more places don't fit where p of them are taken or promised, which are never more than there are
 abbrev pub LeavesNoRoom : ℕ → ℕ → Type 0
 LeavesNoRoom n p = (p ≤ MAX_PLACES) × (MAX_PLACES < p + n)
-
--- ---- what a hall may tell
-
--- Where the hall records the numbers that it told as used up, the call recorded this one, or none.
-abbrev pub RecordsUsedUp : Option (List ℕ) → Option (List ℕ) → ℕ → Type 0
-RecordsUsedUp old new p = Told old new (λ was now. now ≡ was ++ p ∷ [])
-
-abbrev pub RecordsNone : Option (List ℕ) → Option (List ℕ) → Type 0
-RecordsNone old new = new ≡ old
-
--- where the hall counts what this seat did, the call adds so much, or nothing
-abbrev pub AddsWork : Option ℕ → Option ℕ → ℕ → Type 0
-AddsWork old new n = Told old new (λ was now. now ≡ was + n)
-
-abbrev pub AddsNoWork : Option ℕ → Option ℕ → Type 0
-AddsNoWork old new = new ≡ old
-
--- where the hall tells the rooms of its store, none of them goes back with its numbers
-abbrev pub NextsRise : Option (List Room) → Option (List Room) → Type 0
-NextsRise old new = Told old new (AllZip (λ was now. was.next ≤ now.next))
 
 -- ---- loads
 
@@ -101,19 +84,13 @@ Admits alone old new info (Err (fault.Full place)) = TellsFull alone old new inf
 Admits alone old new info (Err (fault.Spent p)) = TellsUsedUp alone old new (places_of_load info) p
 Admits alone old new info (Err fault.Memory) = new ≡ old
 
--- what admit records of the numbers that are used up
-abbrev pub AdmitRecords : Option (List ℕ) → Option (List ℕ) → Result LoadPass HallFault → Type 0
-AdmitRecords old new (Ok pass) = RecordsNone old new
-AdmitRecords old new (Err (fault.Spent p)) = RecordsUsedUp old new p
-AdmitRecords old new (Err (fault.Full place)) = RecordsNone old new
-AdmitRecords old new (Err fault.Memory) = RecordsNone old new
-
--- an entry counts as one; a trace that is let in counts as the entries of its load, which are all promised
-abbrev pub work_of_admit : TraceInfo → Result LoadPass HallFault → ℕ
-work_of_admit info (Ok pass) = places_of_load info
-work_of_admit info (Err (fault.Full place)) = 1
-work_of_admit info (Err (fault.Spent p)) = 0
-work_of_admit info (Err fault.Memory) = 0
+-- What the calls came to after an admit. An entry counts as one; a trace that is let in counts as the
+-- entries of its load, which are all promised.
+abbrev pub after_admit : TraceInfo → Result LoadPass HallFault → Account → Account
+after_admit info (Ok pass) a = with_work (places_of_load info) a
+after_admit info (Err (fault.Full place)) a = with_work 1 a
+after_admit info (Err (fault.Spent p)) a = with_used_up p a
+after_admit info (Err fault.Memory) a = a
 
 -- What is left of a pass after an entry of its load: where a track is published the pass as it goes on, and
 -- where the load ends nothing. No other entry is made with a pass.
@@ -139,7 +116,7 @@ pub record IsRootOf (seat : Seat) (id track start root : ℕ) (s : TrackStream) 
   pub begins : start ≡ s.start
   pub staked : HasStakes seat.stakes (stake root (tree s) ∷ [])
 
--- the tree of the stream is published as this track, and the stake on it is used up
+-- the tree of the stream is published as this track, and the stake on it is handed over
 pub record PublishesTree (alone : Bool) (old new : Seat) (pass : LoadPass) (track root : ℕ) (s : TrackStream)
     (place : ℕ) : Type 0 where
   pub entered : MakesLoadEntry alone old new pass (Published pass.id track (published_tree s)) place
@@ -176,10 +153,9 @@ pub record PinsTraces (alone : Bool) (old new : Seat) (ids : AskIds) (pin : Pin)
   pub stakes : new.stakes ≡ old.stakes
   pub room : OnTrue alone (HasRoom old.seen 1)
 
--- this trace is the first of them that isn't open, as of the place of the question
-pub record TellsUnknown (alone : Bool) (old new : Seat) (ids : AskIds) (id place : ℕ) : Type 0 where
-  pub entered : MakesEntry alone old new Asked place
-  pub unknown : IsFirstUnknown new.seen ids id
+-- The seat makes this entry for itself: what it has stays.
+pub record MakesOwnEntry (alone : Bool) (old new : Seat) (entry : Entry) (place : ℕ) : Type 0 where
+  pub entered : MakesEntry alone old new entry place
   pub pins : new.pins ≡ old.pins
   pub passes : new.passes ≡ old.passes
   pub stakes : new.stakes ≡ old.stakes
@@ -190,17 +166,54 @@ pub record TellsUnknown (alone : Bool) (old new : Seat) (ids : AskIds) (id place
 abbrev pub Asks : Bool → Seat → Seat → AskIds → AskAnswer → Type 0
 Asks alone old new ids (answer.Pinned pin) = PinsTraces alone old new ids pin
 Asks alone old new ids (answer.Unknown id next place) =
-    TellsUnknown alone old new ids id place × (next ≡ next_id new.seen)
+    MakesOwnEntry alone old new Asked place × IsFirstUnknown new.seen ids id × (next ≡ next_id new.seen)
 Asks alone old new ids (answer.Spent p) = TellsUsedUp alone old new 1 p
 
--- what ask records of the numbers that are used up
-abbrev pub AskRecords : Option (List ℕ) → Option (List ℕ) → AskAnswer → Type 0
-AskRecords old new (answer.Pinned pin) = RecordsNone old new
-AskRecords old new (answer.Unknown id next place) = RecordsNone old new
-AskRecords old new (answer.Spent p) = RecordsUsedUp old new p
+-- what the calls came to after an ask: a question that has its entry counts as one
+abbrev pub after_ask : AskAnswer → Account → Account
+after_ask (answer.Pinned pin) a = with_work 1 a
+after_ask (answer.Unknown id next place) a = with_work 1 a
+after_ask (answer.Spent p) a = with_used_up p a
 
--- a question that has its entry counts as one
-abbrev pub work_of_ask : AskAnswer → ℕ
-work_of_ask (answer.Pinned pin) = 1
-work_of_ask (answer.Unknown id next place) = 1
-work_of_ask (answer.Spent p) = 0
+-- the names of a trace's functions
+abbrev pub functions_of : {X : Type 0} → List (EntryOf X) → ℕ → Option (List (List ℕ))
+functions_of entries id = option_map (λ (info : TraceInfo). info.names.functions) (info_of entries id)
+
+-- both traces that are asked for have the same names of functions, in the same order
+abbrev pub HaveSameFunctions : {X : Type 0} → List (EntryOf X) → AskIds → Type 0
+HaveSameFunctions entries ids = functions_of entries (first_id ids) ≡ functions_of entries (second_id ids)
+
+-- ---- closing and listing
+
+-- What close answers. Unknown tells the id that the next trace will get, too, and Loading that the trace is
+-- loading: its load must end first. Spent comes where no place is left.
+abbrev pub Closes : Bool → Seat → Seat → ℕ → CloseAnswer → Type 0
+Closes alone old new id (close.Closed place) = MakesOwnEntry alone old new (Closed id) place
+Closes alone old new id (close.Unknown next place) =
+    MakesOwnEntry alone old new Asked place × (is_open new.seen id ≡ false) × (next ≡ next_id new.seen)
+Closes alone old new id (close.Loading place) =
+    MakesOwnEntry alone old new Asked place × IsTrue (is_loading new.seen id)
+Closes alone old new id (close.Spent p) = TellsUsedUp alone old new 1 p
+
+-- what the calls came to after a close: it counts as one where it has its entry
+abbrev pub after_close : CloseAnswer → Account → Account
+after_close (close.Closed place) a = with_work 1 a
+after_close (close.Unknown next place) a = with_work 1 a
+after_close (close.Loading place) a = with_work 1 a
+after_close (close.Spent p) a = with_used_up p a
+
+-- What list answers: a row for each open trace, as of the place of the question. Want of memory changes
+-- nothing, and it isn't told that too many traces are open.
+abbrev pub Lists : Bool → Seat → Seat → Result Listing HallFault → Type 0
+Lists alone old new (Ok listing) =
+    MakesOwnEntry alone old new Asked listing.place × (listing.rows ≡ listed_rows new.seen)
+Lists alone old new (Err (fault.Spent p)) = TellsUsedUp alone old new 1 p
+Lists alone old new (Err fault.Memory) = new ≡ old
+Lists alone old new (Err (fault.Full place)) = ⊥
+
+-- what the calls came to after a list: it counts as one where it has its entry
+abbrev pub after_list : Result Listing HallFault → Account → Account
+after_list (Ok listing) a = with_work 1 a
+after_list (Err (fault.Spent p)) a = with_used_up p a
+after_list (Err fault.Memory) a = a
+after_list (Err (fault.Full place)) a = a

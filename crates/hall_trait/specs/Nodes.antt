@@ -13,21 +13,15 @@ use Rattle.node_key.specs.declared.key.NodeKey.{NodeKey}
 use Rattle.node_key.specs.declared.limits.TheConstants.{MAX_NUMBERS}
 use Rattle.node_key.specs.declared.tree.Branch.{Branch}
 use Rattle.shard_core.specs.Interning.{IsSpent}
-use Rattle.shard_core.specs.Room.{Room}
+use Rattle.shard_core.specs.Room.{Room, HasNode, IsThere, next_number}
 use Rattle.shard_core.specs.declared.limits.TheConstants.{MAX_COUNT}
 use Rattle.shard_core.specs.declared.answers.Interned.{Interned}
 use Rattle.shard_core.specs.declared.answers.Interned.TheVariants.{Known, New}
-use Rattle.hall_trait.specs.Answers.{RecordsUsedUp, RecordsNone}
+use Rattle.hall_trait.specs.View.{Account, with_used_up, with_work}
 use Rattle.hall_trait.specs.declared.answers.HallFault.{HallFault}
 use Rattle.hall_trait.specs.declared.answers.HallFault.TheVariants as fault
 use Rattle.hall_history.specs.declared.published.Published.{Published}
 use Rattle.hall_history.specs.declared.published.Published.TheVariants.{Root, NotYet}
-
--- The number is used up for this key: it is how many numbers a room gives, or the greatest count. Where the
--- hall tells the rooms of its store, it is so in the key's room.
-abbrev pub IsSpentIn : Option (List Room) → NodeKey → ℕ → Type 0
-IsSpentIn None key v = (v ≡ MAX_NUMBERS) ⊎ (v ≡ MAX_COUNT)
-IsSpentIn (Some rooms) key v = (r : Room) × (slice_get rooms (room key) ≡ Some r) × IsSpent r key v
 
 -- What intern answers: a stake on the node of this tree in place of those on its kids, or a fault that
 -- changes nothing. It isn't told that too many traces are open.
@@ -38,24 +32,34 @@ StakesNode old new t kids (Err (fault.Spent v)) = new ≡ old
 StakesNode old new t kids (Err fault.Memory) = new ≡ old
 StakesNode old new t kids (Err (fault.Full place)) = ⊥
 
--- what intern tells of the store's rooms: where a number is used up
-abbrev pub InternSpends : Option (List Room) → NodeKey → Result Interned HallFault → Type 0
-InternSpends rooms key (Ok interned) = Unit {0}
-InternSpends rooms key (Err (fault.Spent v)) = IsSpentIn rooms key v
-InternSpends rooms key (Err fault.Memory) = Unit {0}
-InternSpends rooms key (Err (fault.Full place)) = Unit {0}
+-- this holds of the key's room
+abbrev pub OfItsRoom : List Room → NodeKey → (Room → Type 0) → Type 0
+OfItsRoom rooms key P = (r : Room) × (slice_get rooms (room key) ≡ Some r) × P r
 
--- what intern records of the numbers that are used up
-abbrev pub InternRecords : Option (List ℕ) → Option (List ℕ) → Result Interned HallFault → Type 0
-InternRecords old new (Ok interned) = RecordsNone old new
-InternRecords old new (Err (fault.Spent v)) = RecordsUsedUp old new v
-InternRecords old new (Err fault.Memory) = RecordsNone old new
-InternRecords old new (Err (fault.Full place)) = RecordsNone old new
+-- a known key is there under its number, and a new one isn't, and gets the room's next number
+abbrev pub TellsNumber : Room → NodeKey → Interned → Type 0
+TellsNumber r key (Known n) = (c : ℕ) × HasNode r n key c
+TellsNumber r key (New n) = (¬ IsThere r key) × (n ≡ next_number r)
 
--- a node that is interned counts as one
-abbrev pub work_of_intern : Result Interned HallFault → ℕ
-work_of_intern (Ok interned) = 1
-work_of_intern (Err e) = 0
+-- What intern tells of the key's room, as it was, where the hall tells the rooms of its store: whether the key
+-- is known, or why a number is used up. Where it doesn't tell them, the number that is used up is how many
+-- numbers a room gives, or the greatest count.
+abbrev pub InternTells : Option (List Room) → NodeKey → Result Interned HallFault → Type 0
+InternTells (Some rooms) key (Ok interned) = OfItsRoom rooms key (λ r. TellsNumber r key interned)
+InternTells (Some rooms) key (Err (fault.Spent v)) = OfItsRoom rooms key (λ r. IsSpent r key v)
+InternTells (Some rooms) key (Err fault.Memory) = Unit {0}
+InternTells (Some rooms) key (Err (fault.Full place)) = Unit {0}
+InternTells None key (Ok interned) = Unit {0}
+InternTells None key (Err (fault.Spent v)) = (v ≡ MAX_NUMBERS) ⊎ (v ≡ MAX_COUNT)
+InternTells None key (Err fault.Memory) = Unit {0}
+InternTells None key (Err (fault.Full place)) = Unit {0}
+
+-- what the calls came to after an intern: a node that is interned counts as one
+abbrev pub after_intern : Result Interned HallFault → Account → Account
+after_intern (Ok interned) a = with_work 1 a
+after_intern (Err (fault.Spent v)) a = with_used_up v a
+after_intern (Err fault.Memory) a = a
+after_intern (Err (fault.Full place)) a = a
 
 -- What read answers of a node, where it is told which numbers lead to which trees: its key, over numbers that
 -- lead to the kids of its tree, one for each.

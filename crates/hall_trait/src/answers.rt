@@ -27,3 +27,16 @@ pub enum AskAnswer {
     /// The places are used up: so many are taken or promised, which leaves no room for one more.
     Spent(u64),
 }
+
+/// What a hall answers to the wish that a trace be closed.
+#[derive(Clone, Copy, Debug, PartialEq, Eq)]
+pub enum CloseAnswer {
+    /// It is closed, at this place.
+    Closed(u64),
+    /// It isn't open: the id that the next trace will get, and the place of the question.
+    Unknown { next: u64, place: u64 },
+    /// It is loading, as of this place, so that it can't be closed yet.
+    Loading(u64),
+    /// The places are used up: so many are taken or promised, which leaves no room for one more.
+    Spent(u64),
+}

@@ -8,7 +8,7 @@ mod laws;
 mod pass;
 mod pin;
 
-pub use answers::{AskAnswer, HallFault};
+pub use answers::{AskAnswer, CloseAnswer, HallFault};
 pub use hall::Hall;
 pub use hall_history::Published;
 pub use laws::published_streams_stay;

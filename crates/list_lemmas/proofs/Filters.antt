@@ -199,11 +199,6 @@ length-filter_parts p (x ∷ xs) =
 pub length-filter_le : {X : Type 0} (p : X → Bool) (xs : List X) → length (filter p xs) ≤ length xs
 length-filter_le p xs = omega (arith, length-filter p xs, count_by-le-length p xs)
 
-pub length-filter_map : {X Y : Type 0} (h : X → Option Y) (xs : List X) → length (filter_map h xs) ≤ length xs
-length-filter_map h [] = omega arith
-length-filter_map h (x ∷ xs) = elim (h x) as (λ o. length (cons_option o (filter_map h xs)) ≤ length (x ∷ xs))
-    [ None ↦ omega (arith, length-filter_map h xs) | Some y ↦ omega (arith, length-filter_map h xs) ]
-
 pub count-kept : {X : Type 0} (p : X → Bool) (xs : List X) (x : X) → p x ≡ false
     → count_by p (xs ++ x ∷ []) ≡ count_by p xs
 count-kept p xs x never =

@@ -1,7 +1,7 @@
 -- Options and results, by what they are made of.
 use Rattle.std.proofs.Common.{Bool, Err, IfSome, IsErrAnd, List, MatchResult, None, Ok, OnErr, OnOk, Option}
 use Rattle.std.proofs.Common.{Result, Some, [], ap, arith, cond, false, inl, inr, is_none, is_some, length}
-use Rattle.std.proofs.Common.{map, not, option_map, option_to_list, refl, subst, sym, true, true≢false, ℕ}
+use Rattle.std.proofs.Common.{not, option_map, option_to_list, refl, subst, sym, true, true≢false, ℕ}
 use Rattle.std.proofs.Common.{◌++◌, ◌<◌, ◌||◌, ◌≡◌, ◌≤◌, ◌⊎◌}
 use Rattle.std.proofs.lemmas.Bool.{false≢true}
 use Rattle.std.proofs.lemmas.Option.{none-some, same_Some}
@@ -108,11 +108,6 @@ option_map-or_cond f (Some y) b x = refl
 option_map-or_cond f None true x = refl
 option_map-or_cond f None false x = refl
 
-pub option_map-cond : {X Y : Type 0} (f : X → Y) (b : Bool) (x : X)
-    → cond b (Some (f x)) None ≡ option_map f (cond b (Some x) None)
-option_map-cond f true x = refl
-option_map-cond f false x = refl
-
 pub is_some-map : {X Y : Type 0} (g : X → Y) (o : Option X) → is_some (option_map g o) ≡ is_some o
 is_some-map g None = refl
 is_some-map g (Some x) = refl
@@ -125,11 +120,6 @@ IfSome-below low high is (Some n) holds = omega (arith, is, holds)
 pub cons_option-list : {X : Type 0} (o : Option X) → cons_option o [] ≡ option_to_list o
 cons_option-list None = refl
 cons_option-list (Some x) = refl
-
-pub cons_option-map : {X Y : Type 0} (f : X → Y) (o : Option X) (xs : List X)
-    → cons_option (option_map f o) (map f xs) ≡ map f (cons_option o xs)
-cons_option-map f None xs = refl
-cons_option-map f (Some x) xs = refl
 
 -- whether there is a first item, with one more in front that may be none
 pub is_some-cons_option : {X : Type 0} (o : Option X) (xs : List X)

@@ -1,8 +1,7 @@
 -- What stands at an index of a list.
-use Rattle.std.proofs.Common.{List, None, Some, [], ap, ap₂, arith, eqb, false, get_or, inl, inr, length}
+use Rattle.std.proofs.Common.{List, None, Some, [], ap, ap₂, arith, get_or, inl, inr, length}
 use Rattle.std.proofs.Common.{length-append, refl, replicate, set, slice_get, slice_index, slice_set, subst}
 use Rattle.std.proofs.Common.{suc, sym, take, zero, ℕ, ◌++◌, ◌+◌, ◌-◌, ◌<◌, ◌∙◌, ◌∷◌, ◌≡◌, ◌≢◌, ◌≤◌, ◌⊎◌}
-use Rattle.std.proofs.lemmas.Bool.Decides.{nat_tests}
 use Rattle.std.proofs.lemmas.List.{get_or_at, get_or_default, set-get_or, set-set, set_comm}
 use Rattle.std.proofs.lemmas.Option.{get_or_from_slice_get, none-some, same_Some, slice_get-get_or}
 use Rattle.std.specs.Option.{option_map}
@@ -78,19 +77,6 @@ last_or_before [] y (suc j) z at = absurd cc
 last_or_before (x ∷ xs) y zero z at = inl at
 last_or_before (x ∷ xs) y (suc j) z at =
     elim (last_or_before xs y j z at) [ inl front ↦ inl front | inr end ↦ inr (omega (arith, end.0), end.1) ]
-
-pub changed_or_not : {X : Type 0} (xs : List X) (i : ℕ) (y : X) (j : ℕ) (z : X)
-    → slice_get (set xs i y) j ≡ Some z
-    → ((i ≡ j) × (z ≡ y)) ⊎ ((eqb i j ≡ false) × (slice_get xs j ≡ Some z))
-changed_or_not [] i y j z at = absurd cc
-changed_or_not (x ∷ xs) zero y zero z at = inl (refl, cc)
-changed_or_not (x ∷ xs) zero y (suc j) z at = inr (grind (arith, nat_tests), at)
-changed_or_not (x ∷ xs) (suc i) y zero z at = inr (grind (arith, nat_tests), at)
-changed_or_not (x ∷ xs) (suc i) y (suc j) z at =
-    elim (changed_or_not xs i y j z at) [
-      | inl same ↦ inl (omega (arith, same.0), same.1)
-      | inr other ↦ let ne = other.0 in inr (grind (arith, nat_tests), other.1)
-    ]
 
 pub slice_get-set : {X : Type 0} (xs : List X) (i : ℕ) (x y : X) → slice_get xs i ≡ Some x
     → slice_get (slice_set xs i y) i ≡ Some y

@@ -1,10 +1,10 @@
 -- Sums and greatest items.
 use Rattle.std.proofs.Common.{Bool, List, Some, [], ap, arith, cond, false, filter, fold, inl, inr, map, max}
-use Rattle.std.proofs.Common.{refl, slice_get, subst, suc, sum_by, sym, true, zero, zero-add, ℕ, ◌++◌, ◌+◌}
+use Rattle.std.proofs.Common.{refl, slice_get, subst, suc, sum_by, sym, true, zero, zero-add, ℕ, ◌+◌}
 use Rattle.std.proofs.Common.{◌<◌, ◌||◌, ◌∙◌, ◌∷◌, ◌≡◌, ◌≤◌, ◌⊎◌}
 use Rattle.std.proofs.lemmas.Bool.{both_ways, cases_Bool, cases_eq, cases_lt, cond-false, cond-true}
 use Rattle.std.proofs.lemmas.Bool.{true≢false}
-use Rattle.std.proofs.lemmas.List.Sums.{sum_by-append, sum_by-cons}
+use Rattle.std.proofs.lemmas.List.Sums.{sum_by-cons}
 use Rattle.std.specs.List.{AllByRecursion, Contains, list_any}
 use Rattle.list_lemmas.proofs.Members.{has_cons, has_here, has_there}
 
@@ -12,12 +12,6 @@ use Rattle.list_lemmas.proofs.Members.{has_cons, has_here, has_there}
 pub sum_by-cond : {X : Type 0} (f : X → ℕ) (b : Bool) (x : X) → sum_by f (cond b (x ∷ []) []) ≡ cond b (f x) 0
 sum_by-cond f true x = zero-add (f x)
 sum_by-cond f false x = refl
-
-pub sum_by-middle : {X : Type 0} (f : X → ℕ) (front mid back : List X)
-    → sum_by f (front ++ mid ++ back) ≡ sum_by f front
-    + sum_by f mid + sum_by f back
-sum_by-middle f front mid back = sum_by-append f (front ++ mid) back ∙ ap (λ n. n + sum_by f back)
-    (sum_by-append f front mid)
 
 pub sum_by-map : {X Y : Type 0} (f : Y → ℕ) (g : X → Y) (xs : List X)
     → sum_by f (map g xs) ≡ sum_by (λ x. f (g x)) xs

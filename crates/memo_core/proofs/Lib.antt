@@ -1,8 +1,8 @@
 mod Answering
-mod CachedItems
+pub mod CachedItems
 mod CachedPut
 mod FullRooms
 mod Lists
-mod MemoLaws
+pub mod MemoLaws
 mod MemoSteps
-mod RunLaws
+pub mod RunLaws

@@ -1,6 +1,6 @@
 -- What a room has for a number and a kind after looks and fills.
 use Rattle.std.proofs.Common.{◌≡◌, ℕ, ◌≤◌, Bool, true, false, cond, true≢false, nat_le, is_some, ◌&&◌}
-use Rattle.std.proofs.Common.{List, [], ◌∷◌, ◌⊎◌, inl, inr, Option, Some, None, Ok, Err}
+use Rattle.std.proofs.Common.{List, [], ◌∷◌, ◌⊎◌, inl, inr, Option, Some, None, Result, Ok, Err}
 use Rattle.std.proofs.Common.{refl, sym, ap, subst, ◌∙◌, arith}
 use Rattle.std.specs.List.{find}
 use Rattle.std.specs.Option.{option_map, option_or}
@@ -8,10 +8,11 @@ use Rattle.std.proofs.lemmas.Bool.{cases_Bool, le-leb, leb-true}
 use Rattle.std.proofs.lemmas.List.Elements.{All-nil}
 use Rattle.memo_core.proofs.MemoLaws.{filled_is_found, others_stay, others_stay_or_go}
 use Rattle.memo_core.proofs.MemoSteps.{is_kept, nothing_goes, same_place, still_memo}
+use Rattle.trace_base.specs.declared.memory.Memory.{Memory}
 use Rattle.whole_profiles.specs.Entry.{entry_kind, entry_rows}
 use Rattle.memo_core.specs.Memo.{MemoItem, IsMemo, is_item_of, entry_under, with_recent}
 use Rattle.memo_core.specs.Runs.{MemoUse, Looked, Filled, MemoStep, MemoRun, entry_filled, last_filled}
-use Rattle.memo_core.specs.Using.{FillsIn}
+use Rattle.memo_core.specs.Using.{LooksUp, FillsIn}
 use Rattle.whole_profiles.specs.declared.entry.Entry.{Entry}
 use Rattle.memo_core.specs.declared.limits.TheConstants.{MEMO_ROWS}
 use Rattle.whole_profiles.specs.declared.memo_kind.MemoKind.{MemoKind}
@@ -58,6 +59,14 @@ module _ (n : ℕ) (kind : MemoKind) where
         | inr apart ↦ others_stay old m other e n kind apart
       ]
 
+  -- what is kept stays when something is looked up
+  pub look_keeps : (old new : List MemoItem) (m : ℕ) (other : MemoKind) (answer : Result (Option Entry) Memory)
+      → IsMemo old → LooksUp old m other answer new → has new ≡ has old
+  look_keeps old new m other (Ok (Some e)) valid (found, is) =
+      ap has is ∙ looked_stays old m other e valid found
+  look_keeps old new m other (Ok None) valid h = ap has h.1
+  look_keeps old new m other (Err y) valid h = ap has h.1
+
   abbrev StepHas : List MemoItem → Option Entry → List MemoItem → Type 0
   StepHas old filled new = (has new ≡ None) ⊎ (has new ≡ option_or filled (has old))
 
@@ -82,10 +91,7 @@ module _ (n : ℕ) (kind : MemoKind) where
 
   step_has : (old new : List MemoItem) (u : MemoUse) → IsMemo old → MemoStep old u new
       → StepHas old (entry_filled u n kind) new
-  step_has old new (Looked m other (Ok (Some e))) valid (found, is) =
-      inr (ap has is ∙ looked_stays old m other e valid found)
-  step_has old new (Looked m other (Ok None)) valid h = inr (ap has h.1)
-  step_has old new (Looked m other (Err y)) valid h = inr (ap has h.1)
+  step_has old new (Looked m other answer) valid h = inr (look_keeps old new m other answer valid h)
   step_has old new (Filled m other e) valid h = filled_has old new m other e
       (is_item_of n kind (record { number = m; kind = other; entry = e }))
       (nat_le (entry_rows e) MEMO_ROWS) valid refl refl h.1

@@ -13,6 +13,6 @@ pub use examples::{
     looks_at_three_items, orders_of_three_items,
 };
 pub use laws::{filled_or_nothing, what_a_fill_leaves};
-pub use limits::{MEMO_ENTRIES, MEMO_ROWS};
+pub use limits::{MEMO_ENTRIES, MEMO_ROOMS, MEMO_ROWS};
 pub use memo::Memo;
 pub use whole_profiles::{Entry, MemoKind};

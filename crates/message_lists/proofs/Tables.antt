@@ -13,13 +13,6 @@ use Rattle.message_lists.specs.declared.arrivals.Arrival.{Arrival}
 use Rattle.message_lists.specs.declared.link_key.LinkKey.{LinkKey}
 
 -- the same look-up, by the key's own parts
-same_test : (at : LinkKey) (kind : ℕ) (key : List ℕ) → is_at at kind key ≡ true → (k : LinkKey)
-    → is_key at.kind at.key.now k ≡ is_key kind key k
-same_test at kind key h k =
-    let parts = and_parts (nat_eq at.kind kind) (pointwise nat_eq at.key.now key) h in
-    ap (λ (n : ℕ). is_key n at.key.now k) (eqb-true at.kind kind parts.0) ∙ ap
-    (λ (xs : List ℕ). is_key kind xs k) ((same_text at.key.now key (sym parts.1)))
-
 same_arrivals : (at : LinkKey) (kind : ℕ) (key : List ℕ) (table : Arrivals) → is_at at kind key ≡ true
     → get_by (is_key at.kind at.key.now) table ≡ get_by (is_key kind key) table
 same_arrivals at kind key table h =

@@ -5,6 +5,7 @@ pub mod Events
 pub mod Examples
 pub mod Items
 pub mod Keys
+pub mod Leads
 pub mod Rooms
 pub mod Stakes
 pub mod Stands

@@ -7,9 +7,9 @@ pub const MAX_KIDS: usize = 8;
 /// at most 256 levels of calls, and the root, adds at most 8.
 pub const MAX_HEIGHT: u16 = 2_048;
 
-/// No `CallTree` is higher. So what goes down a tree, as its `drop` does, calls itself at most this many
-/// times. It leaves room above `MAX_HEIGHT` for lists of any length that are cut into groups.
-pub const HEIGHT_BOUND: u16 = 4_096;
+/// No `CallTree` is higher, as the height in a key has 16 bits. What goes down a tree, as its `drop` does,
+/// calls itself as often as the tree is high: at most `MAX_HEIGHT` times in the tree of a stream.
+pub const HEIGHT_BOUND: u16 = u16::MAX;
 
 /// Rooms of the store.
 pub const STORE_ROOMS: u64 = 16;

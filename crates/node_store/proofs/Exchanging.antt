@@ -35,12 +35,6 @@ exchanged_behind front old new taken given swap x =
 pub has_behind : (front held wanted : List Stake) → HasStakes held wanted → HasStakes (front ++ held) wanted
 has_behind front held wanted has x = omega (arith, has x, times-append x front held)
 
--- one exchange after another
-pub exchanged_then : (old mid new one two : List Stake) → Exchanges old mid one [] → Exchanges mid new two []
-    → Exchanges old new (one ++ two) []
-exchanged_then old mid new one two first next x =
-    omega (arith, first x, next x, times-append x one two)
-
 -- a stake that the owner gives away is one of the others
 pub given_away : (rooms : Store) (g after : Given) (x : Stake) (others : List Stake)
     → Exchanges (stakes_of g) (stakes_of after) (x ∷ []) [] → KeepsFor (kept rooms g) others

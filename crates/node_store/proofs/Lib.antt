@@ -8,6 +8,7 @@ pub mod Keeping
 pub mod KidLoops
 pub mod Reading
 pub mod StakesCounted
+pub mod Leading
 pub mod Living
 pub mod Staking
 pub mod Starting

@@ -227,9 +227,3 @@ given_from_staked g n staked = elim (some_or_none (given_entry g n)) [
       absurd (omega (arith, staked, count)))
   | inr some ↦ some
 ]
-
--- the stakes on kids that the owner has are those that the key tells
-pub kid_stakes_of_has : (g : Given) (t : Tree) (kids : List Stake) (key : NodeKey) → IsOverStakes t kids key
-    → HasStakes (stakes_of g) kids → kid_stakes (ever g) key ≡ kids
-kid_stakes_of_has g t kids key over has = kid_stakes_are (ever g) t kids key over (λ x there.
-    (staked_from_times g x (omega (arith, has x, times_from_there x kids there))).1)

@@ -1,7 +1,8 @@
 //! The definitions, computed on a store with one track in which main calls f twice. Each clause is the
 //! equation; the bodies are empty.
-ghost use Rattle.std.specs.Prelude.{◌≡◌, ◌∷◌, [], None, Some};
+ghost use Rattle.std.specs.Prelude.{◌≡◌, ◌∷◌, [], ℕ, None, Some};
 ghost use Rattle.node_key.specs.Examples.{half, half_key, tenth, tenth_key, track_key, track_of_half};
+ghost use Rattle.node_key.specs.Leads.{Leads};
 ghost use Rattle.node_key.specs.Stakes.{stake};
 ghost use Rattle.node_store.specs.Examples.{none_given, three_given};
 ghost use Rattle.node_store.specs.Given.{ever, stakes_of};
@@ -36,4 +37,10 @@ pub fn stakes_on_small_trees()
 pub fn nothing_given()
     ensures key { ever none_given 0 ≡ None }
     ensures stakes { stakes_of none_given ≡ [] }
+{}
+
+/// The track leads to f, and f to itself alone.
+pub fn numbers_under_a_track()
+    ensures down { Leads (ever (three_given 0 0 1)) 4 0 }
+    ensures leaf { (n : ℕ) → Leads (ever (three_given 0 0 1)) 0 n → n ≡ 0 }
 {}

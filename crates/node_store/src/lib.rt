@@ -5,9 +5,12 @@
 mod examples;
 mod given;
 mod numbered;
+mod reach_laws;
 mod store;
 
 pub use examples::{
-    nothing_given, numbers_of_small_trees, stakes_on_small_trees, trees_under_numbers,
+    nothing_given, numbers_of_small_trees, numbers_under_a_track, stakes_on_small_trees,
+    trees_under_numbers,
 };
+pub use reach_laws::{staked_numbers_lead_still, staked_numbers_lead_to_trees};
 pub use store::NodeStore;

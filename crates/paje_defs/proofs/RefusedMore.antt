@@ -46,19 +46,6 @@ refusal-next reason lines line why none is =
     by None is = refl
     by (Some fault) is = is
 
-stays_by : {X F : Type 0} (reason : Placed X → Option F) (fault : F) (first later : Option (Placed X))
-    → option_and_then reason first ≡ Some fault
-    → option_and_then reason (option_or first later) ≡ Some fault
-stays_by reason fault None later e = absurd (true≢false (sym (ap is_some e)))
-stays_by reason fault (Some p) later e = e
-
--- a refusal stays
-pub refusal-stays : {X F : Type 0} (reason : Placed X → Option F) (lines : List X) (line : X) (fault : F)
-    → refusal reason lines ≡ Some fault → refusal reason (lines ++ line ∷ []) ≡ Some fault
-refusal-stays reason lines line fault e =
-    ap (option_and_then reason) (refused-more reason lines line)
-    ∙ stays_by reason fault (first_refused reason lines) _ e
-
 -- ---- lists without a refused line
 
 -- what each line keeps that isn't refused

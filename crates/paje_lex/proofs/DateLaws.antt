@@ -231,11 +231,6 @@ fraction_back (Some ds) e are is = ap Some
     (take_at ds (exponent_text e) (prefix_len is_ascii_digit (ds ++ exponent_text e))
     (sym (prefix_of ds (exponent_text e) are (exponent_starts is_ascii_digit e refl refl is))))
 
-first_of_digits : (bytes rest : List ℕ) → AreDigits bytes → FirstFails is_sign rest
-    → FirstFails is_sign (bytes ++ rest)
-first_of_digits [] rest are first = first
-first_of_digits (b ∷ bs) rest (is, are) first = digit_no_sign b is
-
 body_starts : (whole : List ℕ) (fraction : Option (List ℕ)) (e : Option Exponent) → AreDigits whole
     → 0 < length (whole ++ unwrap_or fraction [])
     → FirstFails is_sign (whole ++ (fraction_text fraction ++ exponent_text e))

@@ -2,7 +2,7 @@
 use Rattle.std.proofs.Common.{◌≡◌, ℕ, List, [], ◌∷◌, find, length, Option, Some, None, refl, sym, ◌∙◌, ap}
 use Rattle.std.proofs.Common.{subst, Result}
 use Rattle.std.specs.Option.{option_map}
-use Rattle.std.proofs.lemmas.Option.{none-some, same_Some}
+use Rattle.std.proofs.lemmas.Option.{none-some}
 use Rattle.paje_defs.specs.Refusals.{first_of}
 use Rattle.paje_lines.specs.declared.model_fault.ModelFault.{ModelFault}
 use Rattle.paje_lines.specs.declared.model_fault.ModelFault.TheVariants.{DoubleAlias}
@@ -23,19 +23,6 @@ reason_for lines alias = new_reason Containers (container_entities lines) alias 
 -- the line of the container that has the alias
 abbrev pub line_in : ContainerTable → List ℕ → Option ℕ
 line_in t alias = option_map (λ e. e.line) (find (has_alias alias) (entities_in t.entities))
-
-pub alias_taken : (lines : List EventLine) (t : ContainerTable) (alias : List ℕ) (line : ℕ)
-    → AreContainers lines t
-    → line_in t alias ≡ Some line → reason_for lines alias ≡ Some (DoubleAlias line)
-alias_taken lines t alias line are found = by (find (has_alias alias) (container_entities lines))
-    (ap (λ es. option_map (λ e. e.line) (find (has_alias alias) es)) (sym are.entities) ∙ found)
-  where
-    by : (o : Option Entity) → option_map (λ e. e.line) o ≡ Some line
-        → first_of (option_map (λ e. DoubleAlias e.line) o ∷ full Containers
-        (length (containers_in lines)) ∷ [])
-        ≡ Some (DoubleAlias line)
-    by None e = absurd (none-some line e)
-    by (Some e) is = ap (λ n. Some (DoubleAlias n)) (same_Some e.line line is)
 
 alias_free : (lines : List EventLine) (t : ContainerTable) (alias : List ℕ) → AreContainers lines t
     → line_in t alias ≡ None → reason_for lines alias ≡ full Containers (length (containers_in lines))

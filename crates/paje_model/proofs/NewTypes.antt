@@ -105,16 +105,6 @@ link_kinds-counted lines k known = ap length known.types.link_kinds
     ∙ (length-map (filter (λ line. is_link_type line.event) lines) (λ line. text_of line roles.Name)
     ∙ length-filter (λ line. is_link_type line.event) lines)
 
--- whether there is one doesn't depend on the lines
-pub sort-some : (before : List EventLine) (event : EventName) → is_some (sort_of [] event) ≡ true
-    → is_some (sort_of before event) ≡ true
-sort-some before events.DefineContainerType is = refl
-sort-some before events.DefineStateType is = refl
-sort-some before events.DefineEventType is = refl
-sort-some before events.DefineVariableType is = refl
-sort-some before events.DefineLinkType is = refl
-sort-some before _ is = absurd (true≢false (sym is))
-
 -- ---- the values
 
 none_at : (n : ℕ) (vs : List DeclaredValue) → All (λ v. v.kind < n) vs → filter (λ v. v.kind == n) vs ≡ []

@@ -11,7 +11,7 @@ use Rattle.paje_print.specs.Canonical.{IsCanonical}
 use Rattle.paje_print.specs.CanonicalText.{canonical_text}
 use Rattle.paje_print.specs.Examples.{beside_lasting, beside_track, calling_two, linking, quiet_process, sent}
 use Rattle.paje_print.specs.Examples.{long_text, nesting, of_link_type, of_state_types, small_trace}
-use Rattle.paje_print.specs.Examples.{two_in_a_row}
+use Rattle.paje_print.specs.Examples.{of_two_link_types, two_in_a_row, two_nested}
 use Rattle.paje_print.specs.WrittenEvents.{definitions_written}
 use Rattle.paje_print.proofs.CanonicalTest.{IsCanonical-from}
 
@@ -30,6 +30,11 @@ quiet-legal = IsLegal-from quiet_process
 two-legal : IsLegal (two_in_a_row 1 2)
 unfolding stack_after
 two-legal = IsLegal-from (two_in_a_row 1 2)
+    (record { in_time = refl; in_order = refl; each = refl; all_closed = refl; depth = refl; calls = refl })
+
+nested-legal : IsLegal two_nested
+unfolding stack_after
+nested-legal = IsLegal-from two_nested
     (record { in_time = refl; in_order = refl; each = refl; all_closed = refl; depth = refl; calls = refl })
 
 abbrev deep : TrackStream
@@ -66,6 +71,12 @@ unfolding canonical_text definitions_written digits
 great-canonical = IsCanonical-from (linking (sent 1 (2 ^ 63 - 1)))
     (record { test = refl; root = refl; streams = refl; numbered = refl; end = refl })
     (tt, tt) ((lasting 2 10, refl, (refl, refl)), tt) (call-legal, tt) (tt, tt)
+
+pub linked-canonical : IsCanonical of_two_link_types
+unfolding canonical_text definitions_written digits
+linked-canonical = IsCanonical-from of_two_link_types
+    (record { test = refl; root = refl; streams = refl; numbered = refl; end = refl })
+    (tt, tt) ((lasting 2 10, refl, (refl, refl)), tt) (nested-legal, tt) ((refl, tt), (tt, tt))
 
 pub last-canonical : IsCanonical (beside_lasting MAX_TIME)
 unfolding canonical_text definitions_written digits

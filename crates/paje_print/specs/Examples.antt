@@ -195,3 +195,22 @@ starts n = replicate n (sent 1 100)
 
 abbrev pub linking_often : ℕ → TraceText
 linking_often n = record small_trace { links = starts n }
+
+-- With two link types: the process calls two functions, one in the other, and sends the root a message of each
+-- type. The ends of the second stand between those of the first.
+abbrev pub two_nested : TrackStream
+two_nested = record {
+  start = 2;
+  end = 10;
+  events = Enter 1 3 ∷ Enter 2 4 ∷ Leave 5 ∷ Leave 7 ∷ [];
+}
+
+abbrev pub of_two_link_types : TraceText
+of_two_link_types = record {
+  names = record small_names {
+    link_kinds = codes "Link" ∷ codes "Put" ∷ [];
+    functions = codes "main" ∷ codes "f" ∷ [];
+  };
+  tracks = two_nested ∷ [];
+  links = sent 1 100 ∷ record (sent 1 8) { kind = 1 } ∷ record (received 0 0) { kind = 1 } ∷ received 0 0 ∷ [];
+}

@@ -7,6 +7,7 @@ ghost use Rattle.paje_print.specs.Examples.{beside_container, beside_containers,
 ghost use Rattle.paje_print.specs.Examples.{beside_lasting, calling_each, calling_often, calling_two};
 ghost use Rattle.paje_print.specs.Examples.{ending_at, linking, linking_often, long_text, long_texts, nesting};
 ghost use Rattle.paje_print.specs.Examples.{nothing_traced, of_link_type, of_state_type, of_state_types};
+ghost use Rattle.paje_print.specs.Examples.{of_two_link_types};
 ghost use Rattle.paje_print.specs.Examples.{quiet_in_each, quiet_process, received, rooted_in, running, sent};
 ghost use Rattle.paje_print.specs.Examples.{small_trace};
 
@@ -20,6 +21,7 @@ pub fn canonical_traces()
     ensures small { IsCanonical small_trace }
     ensures beside { IsCanonical (beside_track (track_of_kind 1 1) (quiet_process ∷ [])) }
     ensures two_functions { IsCanonical (calling_two (codes "main" ∷ codes "f" ∷ []) 1 2) }
+    ensures two_link_types { IsCanonical of_two_link_types }
     ensures great_size { IsCanonical (linking (sent 1 (2 ^ 63 - 1))) }
     ensures last_time { IsCanonical (beside_lasting MAX_TIME) }
     // There are a type of links and one of containers beside these.

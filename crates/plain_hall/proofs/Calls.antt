@@ -59,13 +59,6 @@ whole_at n to e = go (eqb n to) refl e
     go true at e = eqb-true n to at
     go false at e = absurd cc
 
-left_at : (n to : ℕ) → n ≤ to → left_in (state_at n to) to ≡ to - n
-left_at n to le = go (eqb n to) refl
-  where
-    go : (b : Bool) → eqb n to ≡ b → left_in (cond b Whole (Straight n)) to ≡ to - n
-    go true at = omega (arith, eqb-true n to at)
-    go false at = refl
-
 pub next_is_count : (entries : List Entry) (pass : LoadPass) (track : ℕ) → IsPassOf entries pass
     → IsNext pass track → track ≡ published_count entries pass.id
 next_is_count entries pass track facts next = sym (straight_at _ _ track (facts.state ∙ next))
@@ -73,10 +66,6 @@ next_is_count entries pass track facts next = sym (straight_at _ _ track (facts.
 pub whole_is_all : (entries : List Entry) (pass : LoadPass) → IsPassOf entries pass → pass.state ≡ Whole
     → published_count entries pass.id ≡ tracks_of entries pass.id
 whole_is_all entries pass facts whole = whole_at _ _ (facts.state ∙ whole)
-
-pub left_is_rest : (entries : List Entry) (pass : LoadPass) → IsPassOf entries pass
-    → left_in pass.state pass.to ≡ tracks_of entries pass.id - published_count entries pass.id
-left_is_rest entries pass facts = ap₂ left_in (sym facts.state) (sym facts.to) ∙ left_at _ _ facts.counted
 
 -- a view by its parts
 same_view : (p q : PassView) → p.id ≡ q.id → p.from ≡ q.from → p.to ≡ q.to → p.state ≡ q.state → p ≡ q

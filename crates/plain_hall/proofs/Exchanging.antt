@@ -3,7 +3,7 @@ use Rattle.std.proofs.Common.{◌≡◌, ℕ, List, [], ◌∷◌, length, Ok, S
 use Rattle.std.proofs.Common.{refl, sym, ap, ◌∙◌, subst}
 use Rattle.std.specs.Prelude.{is_some, IsSome}
 use Rattle.std.specs.List.{AllZip, range_with_len}
-use Rattle.hall_trait.specs.Nodes.{ReadsNode, StakesNode}
+use Rattle.hall_trait.specs.Nodes.{InternTells, OfItsRoom, ReadsNode, StakesNode}
 use Rattle.node_key.specs.Branches.{branches}
 use Rattle.hall_history.specs.History.{Entry}
 use Rattle.node_key.specs.Keys.{IsKeyOf}
@@ -17,7 +17,11 @@ use Rattle.node_key.specs.declared.key.NodeKey.{NodeKey}
 use Rattle.node_key.specs.declared.tree.Branch.{Branch}
 use Rattle.shard_core.specs.declared.answers.Interned.{Interned}
 use Rattle.shard_core.specs.declared.answers.Interned.TheVariants.{Known, New}
-use Rattle.node_store.specs.Answering.{answered_number}
+use Rattle.shard_core.specs.Interning.{Interns}
+use Rattle.shard_core.specs.Room.{Room}
+use Rattle.store_laws.specs.Store.{Store}
+use Rattle.node_store.specs.Answering.{AnswersKey, answered_number}
+use Rattle.node_store.specs.Kept.{NodesKept}
 use Rattle.std.proofs.lemmas.Option.{same_Some}
 use Rattle.plain_hall.specs.Loading.{passes_of}
 use Rattle.plain_hall.specs.PlainSeat.{plain_seat}
@@ -38,19 +42,18 @@ pub interned : (old new : Seat) (t : Tree) (kids : List Stake) (answer : Interne
 interned old new t kids (Known n) swap = swap
 interned old new t kids (New n) swap = swap
 
--- numbers that stand for kids lead to their trees
-kids_lead : (key_at : KeyAt) (ns : List ℕ) (k : Kids) → KidsStand key_at ns k
-    → AllZip (λ n (b : Branch). Stands key_at n b.tree) ns (branches k)
-kids_lead key_at [] no_kids stand = tt
-kids_lead key_at (n ∷ ns) no_kids stand = absurd cc
-kids_lead key_at [] (kid gap func dur inner more) stand = stand
-kids_lead key_at (n ∷ ns) (kid gap func dur inner more) stand = (stand.0, kids_lead key_at ns more stand.1)
-
--- a key that is found tells the node
-pub node_read : (key_at : KeyAt) (n : ℕ) (t : Tree) (key : NodeKey) → key_at n ≡ Some key → Stands key_at n t
-    → ReadsNode (Stands key_at) t key
-node_read key_at n t key at (own, ns, is, of, below) =
-    (ns, subst (IsKeyOf t ns) (same_Some own key (sym is ∙ at)) of, kids_lead key_at ns t.kids below)
-
 pub stands_some : (key_at : KeyAt) (n : ℕ) (t : Tree) → Stands key_at n t → IsSome (key_at n)
 stands_some key_at n t stands = ap is_some stands.2
+
+-- the key's room answers
+pub interns_there : (old new : NodesKept) (key : NodeKey) (answer : Interned)
+    → AnswersKey old key (Ok answer) new
+    → OfItsRoom old.rooms key (λ r. (after : Room) × Interns r key (Ok answer) after)
+interns_there old new key answer answers = (answers.before, answers.there, (answers.after, answers.interns))
+
+-- whether the key was known is told of its room
+pub tells_number : (rooms : Store) (key : NodeKey) (answer : Interned)
+    → OfItsRoom rooms key (λ r. (after : Room) × Interns r key (Ok answer) after)
+    → InternTells (Some rooms) key (Ok answer)
+tells_number rooms key (Known n) (r, there, (after, interns)) = (r, there, (interns.0, interns.1))
+tells_number rooms key (New n) (r, there, (after, interns)) = (r, there, (interns.0, interns.2))

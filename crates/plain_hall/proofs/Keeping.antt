@@ -1,13 +1,13 @@
 -- A store keeps what it keeps for the same stakes in any order; and the rooms of a store in order.
 use Rattle.std.proofs.Common.{◌≡◌, ◌⊎◌, inl, inr, ◌+◌, List, [], ◌∷◌, ◌++◌}
-use Rattle.std.proofs.Common.{Some, ap, ◌∙◌, arith, Contains}
+use Rattle.std.proofs.Common.{ap, ◌∙◌, arith, Contains}
 use Rattle.std.specs.List.{AllZip}
 use Rattle.std.specs.Prelude.{◌≤◌}
 use Rattle.node_key.specs.Stakes.{Exchanges, times}
 use Rattle.node_key.specs.declared.stake.Stake.{Stake}
 use Rattle.node_key.proofs.StakeLaws.{times-append}
 use Rattle.shard_core.specs.Room.{Room}
-use Rattle.hall_trait.specs.Answers.{NextsRise}
+use Rattle.hall_trait.proofs.Views.{Later, later_same}
 use Rattle.store_laws.specs.Counted.{IsStore, stakes_on}
 use Rattle.store_laws.specs.Store.{Store}
 use Rattle.store_laws.proofs.SumsOfStakes.{from_either, stakes_exchanged}
@@ -41,18 +41,5 @@ keeps_same s xs ys same = store_same s.rooms (stakes_of s.given ++ xs) (stakes_o
 
 -- ---- rooms
 
-pub never_falls : (a b c : List Room) → AllZip (λ (was now : Room). was.next ≤ now.next) a b
-    → AllZip (λ (was now : Room). was.next ≤ now.next) b c → AllZip (λ (was now : Room). was.next ≤ now.next) a c
-never_falls [] [] [] one two = tt
-never_falls [] [] (t ∷ c) one two = two
-never_falls [] (s ∷ b) c one two = absurd one
-never_falls (r ∷ a) [] c one two = absurd one
-never_falls (r ∷ a) (s ∷ b) [] one two = two
-never_falls (r ∷ a) (s ∷ b) (t ∷ c) one two = (omega (arith, one.0, two.0), never_falls a b c one.1 two.1)
-
-pub nexts_same : (rooms : List Room) → NextsRise (Some rooms) (Some rooms)
-nexts_same [] = tt
-nexts_same (r ∷ rooms) = (omega arith, nexts_same rooms)
-
-pub nexts_stay : (old new : List Room) → new ≡ old → NextsRise (Some old) (Some new)
-nexts_stay old new same = rw same (nexts_same old)
+pub nexts_stay : (old new : List Room) → new ≡ old → Later old new
+nexts_stay old new same = rw same (later_same old)

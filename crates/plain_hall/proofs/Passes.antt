@@ -1,7 +1,7 @@
 -- What an entry does to the passes.
 use Rattle.std.proofs.Common.{◌≡◌, ℕ, ◌+◌, ◌<◌, ◌≤◌, true, false, ◌&&◌, ◌||◌, not, cond, eqb, List}
 use Rattle.std.proofs.Common.{[], ◌∷◌, ◌++◌, length, map, filter, Option, None, Some, refl, sym, ap}
-use Rattle.std.proofs.Common.{ap₂, ◌∙◌, arith, get_or, Contains}
+use Rattle.std.proofs.Common.{ap₂, ◌∙◌, arith, get_or, Contains, inl, inr}
 use Rattle.std.specs.Prelude.{is_some}
 use Rattle.std.specs.List.{list_any}
 use Rattle.std.specs.Option.{option_map_or, option_or}
@@ -11,13 +11,16 @@ use Rattle.std.proofs.lemmas.List.Elements.{filter-append, filter_passes}
 use Rattle.std.proofs.lemmas.List.Folds.{list_any-append}
 use Rattle.std.proofs.lemmas.Bool.{eq-eqb}
 use Rattle.std.proofs.lemmas.Bool.{or_right}
+use Rattle.std.proofs.lemmas.Bool.Decides.{eqb_tells}
+use Rattle.std.proofs.Math.Bool.{and-true}
 use Rattle.list_lemmas.proofs.AroundOne.{AgreeBut, Around, Lacks, Lacks-filter, filter_same, filters_around}
 use Rattle.list_lemmas.proofs.AroundOne.{map_same, range_below}
 use Rattle.list_lemmas.proofs.Booleans.{and_not}
 use Rattle.list_lemmas.proofs.Found.{any_more}
 use Rattle.list_lemmas.proofs.Maps.{map_middle}
 use Rattle.trace_base.specs.declared.names.TraceInfo.{TraceInfo}
-use Rattle.hall_history.specs.History.{EntryOf, Opened, Published, Sealed, Dropped, Asked, seals, ends}
+use Rattle.hall_history.specs.History.{EntryOf, Opened, Published, Sealed, Dropped, Closed, Asked}
+use Rattle.hall_history.specs.History.{ends, seals}
 use Rattle.hall_history.specs.History.{opened_ids, info_of, is_open, is_loading, open_ids}
 use Rattle.hall_history.specs.History.{published_count}
 use Rattle.plain_hall.specs.Loading.{loading_ids, pass_of, passes_of}
@@ -26,9 +29,11 @@ use Rattle.hall_history.specs.Seat.{Adds, Removes, Replaces}
 use Rattle.hall_history.specs.declared.seat.PassView.{PassView}
 use Rattle.plain_hall.proofs.Legal.{open_within}
 use Rattle.hall_history.proofs.HistoryMore.{SameData, SameFate, subject, opened_more, info_more, count_more}
-use Rattle.hall_history.proofs.HistoryMore.{data_of_others, fate_of_others, data_asked, fate_asked}
+use Rattle.hall_history.proofs.HistoryMore.{data_of_others, fate_of_others, data_asked, data_closed}
+use Rattle.hall_history.proofs.HistoryMore.{fate_asked}
 use Rattle.hall_history.proofs.HistoryMore.{fate_published, loading_same, tracks_same}
 use Rattle.hall_history.proofs.HistoryFronts.{loading_open}
+use Rattle.registry_core.proofs.EndedMore.{IsEndOf-closed, ended_ids, ended_loading}
 
 -- the histories agree on all traces but one
 pub record AgreeOnOthers {X : Type 0} (old new : List (EntryOf X)) (id : ℕ) : Type 0 where
@@ -83,6 +88,23 @@ asked_keeps entries =
       passes = ap₂ map passes (ap₂ filter loads ids);
       opens = ap length (ap₂ filter opens ids);
     }
+
+-- a trace that isn't loading is closed
+pub closed_passes : {X : Type 0} → (entries : List (EntryOf X)) (id : ℕ) → is_loading entries id ≡ false
+    → passes_of (entries ++ Closed id ∷ []) ≡ passes_of entries
+closed_passes entries id sealed =
+    let new = entries ++ Closed id ∷ [] in
+    let ids : opened_ids new ≡ opened_ids entries = ended_ids entries (Closed id) id (IsEndOf-closed id) in
+    let loads : is_loading new ≡ is_loading entries =
+    fun_ext (λ x. ended_loading entries (Closed id) id x (IsEndOf-closed id) ∙ elim (eqb_tells id x) [
+      | inl this ↦
+          let off : is_loading entries x ≡ false = ap (is_loading entries) (sym this.1) ∙ sealed in
+          ap₂ (λ a b. a && not b) off this.0 ∙ sym off
+      | inr other ↦ ap (λ b. is_loading entries x && not b) other.0 ∙ and-true _
+    ]) in
+    let passes : pass_of new ≡ pass_of entries =
+    fun_ext (λ x. pass_same entries new x (data_closed entries id x)) in
+    ap₂ map passes (ap₂ filter loads ids)
 
 -- one pass goes on where a track is published
 pub published_goes_on : {X : Type 0} → (entries : List (EntryOf X)) (id track : ℕ) (s : X) → IsOrderly entries

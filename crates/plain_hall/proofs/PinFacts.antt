@@ -1,11 +1,12 @@
 -- What a registry knows of the traces of a pin.
 use Rattle.std.proofs.Common.{◌≡◌, ℕ, ◌<◌, true, false, cond, eqb, List, [], ◌∷◌, ◌++◌, map, Option}
-use Rattle.std.proofs.Common.{None, Some, inl, inr, refl, sym, ap, ◌∙◌, arith, eq-eqb, Contains}
+use Rattle.std.proofs.Common.{None, Some, inl, inr, refl, sym, ap, ◌∙◌, arith, eq-eqb, Contains, subst}
 use Rattle.std.specs.Prelude.{is_some, IsSome, length}
 use Rattle.std.specs.Option.{option_to_list}
 use Rattle.std.proofs.lemmas.Bool.{cases_Bool}
 use Rattle.list_lemmas.proofs.Booleans.{one_if}
 use Rattle.list_lemmas.proofs.Filters.{count_by-cons}
+use Rattle.list_lemmas.proofs.Members.{has_here, has_there}
 use Rattle.list_lemmas.proofs.Options.{given_some}
 use Rattle.hall_history.specs.History.{Entry, EntryOf, Asked, info_of, is_open, tracks_of}
 use Rattle.hall_history.proofs.HistoryMore.{data_asked, fate_asked, open_same}
@@ -20,7 +21,7 @@ use Rattle.node_store.specs.Kept.{NodesKept}
 use Rattle.registry_core.proofs.FollowsRegistry.{slots_told}
 use Rattle.registry_core.proofs.KeptTraces.{kept_id}
 use Rattle.registry_core.proofs.UsedByQueries.{known-open, named-first}
-use Rattle.registry_core.specs.Asking.{first_unknown, times_asked}
+use Rattle.registry_core.specs.Asking.{asked_ids, first_unknown, times_asked}
 use Rattle.registry_core.specs.Registry.{RegistryValue, kept_trace, open_trace}
 use Rattle.registry_core.specs.Standing.{AreTrees, StandsFor}
 use Rattle.registry_core.specs.Trace.{Trace}
@@ -47,8 +48,18 @@ second_asked (Two a b) = omega (
   ap one_if (eq-eqb b b refl),
 )
 
+pub asked_at : (ids : AskIds) (which : ℕ) → Contains (asked_ids ids) (id_at ids which)
+asked_at (One a) which = elim (eqb which 0) as (λ b. Contains (a ∷ []) (cond b a a)) [
+  | true ↦ has_here a []
+  | false ↦ has_here a []
+]
+asked_at (Two a b) which = elim (eqb which 0) as (λ x. Contains (a ∷ b ∷ []) (cond x a b)) [
+  | true ↦ has_here a (b ∷ [])
+  | false ↦ has_there a b (b ∷ []) (has_here b [])
+]
+
 -- so each of a query's traces is kept
-query_kept : (r : RegistryValue) (ids : AskIds) (queries : List AskIds) (id : ℕ)
+pub query_kept : (r : RegistryValue) (ids : AskIds) (queries : List AskIds) (id : ℕ)
     → AreUsedBy r.traces (ids ∷ queries) → 0 < times_asked ids id → IsSome (kept_trace r.traces id)
 query_kept r ids queries id used asked =
     used.kept id (omega (arith, asked, named-first ids queries id))
@@ -68,16 +79,14 @@ pin_query o view has =
     let (p, is, same) = has_pin o view has in
     ap queries_of is ∙ ap (λ (v : PinView). v.ids ∷ []) same
 
+pub pin_runs : (o : Option KeptPin) (view : PinView) → Contains (map kept_view (option_to_list o)) view
+    → Contains (queries_of o) view.ids
+pin_runs o view has = subst (λ (qs : List AskIds). Contains qs view.ids) (sym (pin_query o view has))
+    (has_here view.ids [])
+
 pub no_query : (o : Option KeptPin) → map kept_view (option_to_list o) ≡ [] → queries_of o ≡ []
 no_query None none = refl
 no_query (Some p) none = absurd cc
-
--- once a pin is given back there is none
-pub no_pin_left : (o : Option KeptPin) (view : PinView) → Contains (map kept_view (option_to_list o)) view
-    → map kept_view (option_to_list o) ≡ view ∷ []
-no_pin_left o view has =
-    let (p, is, same) = has_pin o view has in
-    ap (λ (o : Option KeptPin). map kept_view (option_to_list o)) is ∙ ap (λ (v : PinView). v ∷ []) same
 
 -- what a query's traces were opened with is told
 query_told : (s : NodesKept) (r : RegistryValue) (entries : List (EntryOf Root)) (ids : AskIds)

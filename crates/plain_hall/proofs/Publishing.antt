@@ -1,17 +1,20 @@
 -- What stakes and roots stand for, where a track is published and where it is told.
-use Rattle.std.proofs.Common.{◌≡◌, ℕ, ◌-◌, zero-lt-suc, List, [], ◌∷◌, take, Some, refl, ap, ◌∙◌, subst, arith}
+use Rattle.std.proofs.Common.{◌≡◌, ℕ, ◌-◌, zero-lt-suc, List, [], ◌∷◌, take, Some, refl, ap, ◌∙◌, subst, arith, Contains}
 use Rattle.trace_base.specs.declared.stream.TrackStream.{TrackStream}
 use Rattle.hall_history.proofs.Legal.{legal_before}
 use Rattle.hall_history.specs.declared.asks.AskIds.{AskIds}
 use Rattle.hall_history.specs.declared.published.Published.{Published}
 use Rattle.hall_history.specs.declared.published.Published.TheVariants.{NotYet, Root as RootAt}
 use Rattle.hall_history.specs.History.{EntryOf, published_of, published_tree}
+use Rattle.hall_history.specs.declared.seat.PinView.{PinView}
 use Rattle.hall_trait.specs.Nodes.{TellsTrack}
+use Rattle.node_key.specs.Leads.{here}
 use Rattle.node_key.specs.Stakes.{HasStakes, stake}
 use Rattle.node_key.specs.Stands.{KeyAt, Stands}
 use Rattle.node_key.specs.Tree.{Tree}
 use Rattle.node_key.specs.Trees.{tree}
 use Rattle.registry_core.proofs.ToldTracks.{not_yet_told, published_told}
+use Rattle.registry_core.specs.Asking.{asked_ids}
 use Rattle.registry_core.specs.Registry.{RegistryValue, kept_trace}
 use Rattle.registry_core.specs.Standing.{AreTrees}
 use Rattle.registry_core.specs.Trace.{Trace, published_by}
@@ -20,6 +23,7 @@ use Rattle.node_store.proofs.TreesUnder.{tree_is}
 use Rattle.node_store.specs.Given.{ever, stakes_of}
 use Rattle.node_store.specs.Kept.{NodesKept}
 use Rattle.plain_hall.specs.HallLaws.{stakes_stand}
+use Rattle.plain_hall.specs.Reaching.{ReachesByPin}
 use Rattle.plain_hall.specs.Rooted.{tree_of_root, with_trees}
 use Rattle.plain_hall.specs.Whole.{IsSoundHall, at_first}
 use Rattle.plain_hall.specs.declared.root.Root.{Root}
@@ -62,4 +66,36 @@ track_told nodes r entries queries id place track t (RootAt start root) whole ke
       published_fits (take place seen) id track is.0 (legal_before seen place whole.legal) at,
       is.2.0,
       is.2.1,
+    )
+
+-- the root that is told is reached by the pin
+pub track_reached : (nodes : NodesKept) (r : RegistryValue) (entries : List (EntryOf Root))
+    (queries : List AskIds) (pins : List PinView) (pin : PinView) (id track : ℕ) (t : Trace) (o : Published)
+    → IsSoundHall nodes r entries queries → Contains pins pin → Contains (asked_ids pin.ids) id
+    → kept_trace r.traces id ≡ Some t → published_by t pin.place track ≡ o
+    → TellsTrack (take pin.place (with_trees (ever nodes.given) entries)) id track
+    (ReachesByPin nodes r pins pin) o
+track_reached nodes r entries queries pins pin id track t NotYet whole has asked kept told =
+    track_told nodes r entries queries id pin.place track t NotYet whole kept told
+track_reached nodes r entries queries pins pin id track t (RootAt start root) whole has asked kept told =
+    let (p, at, fits, begins, stands) =
+    track_told nodes r entries queries id pin.place track t (RootAt start root) whole kept told in (
+      p,
+      at,
+      fits,
+      begins,
+      record {
+        has = has;
+        root = root;
+        sees = record {
+          id = id;
+          asked = asked;
+          trace = t;
+          kept = kept;
+          track = track;
+          start = start;
+          told = told;
+        };
+        leads = record { led = here; stands = stands };
+      },
     )

@@ -1,20 +1,23 @@
 -- What holds of a plain hall after each of its calls.
-use Rattle.std.proofs.Common.{◌≡◌, ℕ, ◌+◌, ◌-◌, ◌≤◌, cond, length, true, List, [], ◌∷◌, ◌++◌, Ok, Some, refl, sym, ap, ◌∙◌, subst, arith}
+use Rattle.std.proofs.Common.{◌≡◌, ℕ, true, false, List, [], ◌∷◌, ◌++◌, Ok, Some, refl, sym, ap}
+use Rattle.std.proofs.Common.{◌∙◌, subst, arith}
+use Rattle.std.specs.Prelude.{is_some}
 use Rattle.std.proofs.lemmas.Bool.{false≢true}
+use Rattle.std.proofs.lemmas.Option.{same_Some}
 use Rattle.list_lemmas.proofs.All.{All-found}
 use Rattle.trace_base.specs.Info.{IsLegalInfo}
 use Rattle.trace_base.specs.declared.names.TraceInfo.{TraceInfo}
-use Rattle.hall_history.specs.History.{EntryOf, IsTrackTree, MayFollow, published_count}
-use Rattle.hall_history.specs.History.{Opened, Published, Sealed, Dropped, Asked}
+use Rattle.hall_history.specs.History.{Entry, EntryOf, IsTrackTree, MayFollow, is_loading, published_count}
+use Rattle.hall_history.specs.History.{Opened, Published, Sealed, Dropped, Closed, Asked}
 use Rattle.hall_history.specs.declared.asks.AskIds.{AskIds}
 use Rattle.node_key.specs.Stakes.{stake}
 use Rattle.node_key.specs.Stands.{Stands}
 use Rattle.node_store.specs.Given.{ever}
 use Rattle.node_store.specs.Kept.{AreKept, KeepsFor, NodesKept}
 use Rattle.node_store.specs.TreeUnder.{tree_under}
-use Rattle.registry_core.proofs.EndedMore.{IsEndOf-dropped}
+use Rattle.registry_core.proofs.EndedMore.{IsEndOf, IsEndOf-closed, IsEndOf-dropped}
 use Rattle.registry_core.proofs.FollowsRegistry.{all_told, awaited_none, loads_told}
-use Rattle.registry_core.proofs.KeptTraces.{kept_own}
+use Rattle.registry_core.proofs.KeptTraces.{kept_own, open_kept}
 use Rattle.registry_core.proofs.LawTraces.{kept_above}
 use Rattle.registry_core.proofs.OpenRows.{open_count_told}
 use Rattle.registry_core.proofs.RootsKept.{roots-changed, roots-opened, roots-published, roots-same}
@@ -32,16 +35,19 @@ use Rattle.registry_core.proofs.UsedByQueries.{HasUsers, known-kept, used-asked,
 use Rattle.registry_core.proofs.UsedByQueries.{used-in_use, used-opened, used-without}
 use Rattle.registry_core.proofs.KeptTraces.{IsRising-map}
 use Rattle.registry_core.specs.Asking.{AsksIn, after_unpin, times_asked, with_users, without_users}
+use Rattle.registry_core.specs.Closing.{ClosesIn}
 use Rattle.registry_core.specs.Loading.{AdmitsIn, AwaitsSeal, AwaitsTrack, EndsIn, IsLoadingTrace}
 use Rattle.registry_core.specs.Loading.{with_ended, with_opened, with_published, with_sealed}
 use Rattle.registry_core.specs.Registry.{FitsPlaces, IsSoundRegistry, RegistryValue, after_entry, has_id, kept_trace}
+use Rattle.registry_core.specs.Registry.{open_trace}
 use Rattle.registry_core.specs.Roots.{ExchangesRoots, roots_kept}
 use Rattle.registry_core.specs.Standing.{AreTrees, StandsFor}
 use Rattle.registry_core.specs.Trace.{Trace, just_opened, kept_for_users, loaded, used_less, used_more}
-use Rattle.registry_core.specs.Trace.{promise_of, published_tracks, with_root}
+use Rattle.registry_core.specs.Trace.{with_root}
 use Rattle.registry_core.specs.UsedBy.{AreUsedBy}
 use Rattle.registry_core.specs.declared.answers.Opened.{Opened as OpenedTrace}
 use Rattle.registry_core.specs.declared.answers.RegAsk.TheVariants.{Pinned}
+use Rattle.registry_core.specs.declared.answers.RegClose.TheVariants as close
 use Rattle.registry_core.specs.declared.answers.RegEnd.{RegEnd}
 use Rattle.registry_core.specs.declared.answers.RegEnd.TheVariants.{Ended, Kept}
 use Rattle.plain_hall.specs.Rooted.{stakes_under, tree_of_root, with_trees}
@@ -177,28 +183,30 @@ dropped_end r id t sound (u, found, loading) kept =
     let loads : t.loading ≡ true = ap (λ (v : Trace). v.loading) same ∙ loading in
     may-end r id t sound kept (t, kept, λ sealed. absurd (false≢true (sym sealed ∙ loads)))
 
-dropped_stands : (s : NodesKept) (r q : RegistryValue) (old : List (EntryOf Root)) (id : ℕ) (end : RegEnd)
-    (queries : List AskIds) → IsLoadingTrace r id → EndsIn r id end q → IsSoundHall s r old queries
-    → StandsFor (AreTrees (ever s.given)) at_first q (with_trees (ever s.given) old ++ Dropped id ∷ [])
+-- a registry whose trace ends stands for the history with the entry that ends it
+ended_stands : (s : NodesKept) (r q : RegistryValue) (old : List (EntryOf Root)) (e : Entry) (id : ℕ)
+    (end : RegEnd) (queries : List AskIds) → IsEndOf e id → ((t : Trace) → kept_trace r.traces id ≡ Some t → HasEnd r t)
+    → EndsIn r id end q → IsSoundHall s r old queries
+    → StandsFor (AreTrees (ever s.given)) at_first q (with_trees (ever s.given) old ++ e ∷ [])
     × AreUsedBy q.traces queries
-dropped_stands s r q old id (Ended place roots) queries loads (t, kept, unused, is, are, becomes) was =
-    let end = dropped_end r id t was.stands.sound loads kept in
+ended_stands s r q old e id (Ended place roots) queries is_end ends (t, kept, unused, is, are, becomes) was =
+    let end = ends t kept in
     let entries = with_trees (ever s.given) old in
     let trees = AreTrees (ever s.given) in
-    subst (λ (q : RegistryValue). StandsFor trees at_first q (entries ++ Dropped id ∷ [])
+    subst (λ (q : RegistryValue). StandsFor trees at_first q (entries ++ e ∷ [])
     × AreUsedBy q.traces queries) (sym becomes) (
-      stands-gone trees at_first r entries (Dropped id) id t was.stands kept (IsEndOf-dropped id)
+      stands-gone trees at_first r entries e id t was.stands kept is_end
           (sound-ended r t was.stands.sound (kept_own r.traces id t kept) end.0 end.1),
       used-without r.traces t queries
           (All-found (HasUsers queries) (has_id id) r.traces t was.used.users kept) unused was.used,
     )
-dropped_stands s r q old id (Kept place) queries loads (t, kept, used, is, becomes) was =
-    let end = dropped_end r id t was.stands.sound loads kept in
+ended_stands s r q old e id (Kept place) queries is_end ends (t, kept, used, is, becomes) was =
+    let end = ends t kept in
     let entries = with_trees (ever s.given) old in
     let trees = AreTrees (ever s.given) in
-    subst (λ (q : RegistryValue). StandsFor trees at_first q (entries ++ Dropped id ∷ [])
+    subst (λ (q : RegistryValue). StandsFor trees at_first q (entries ++ e ∷ [])
     × AreUsedBy q.traces queries) (sym becomes) (
-      stands-kept trees at_first r entries (Dropped id) id t was.stands kept (IsEndOf-dropped id)
+      stands-kept trees at_first r entries e id t was.stands kept is_end
           (sound-kept r t was.stands.sound (kept_own r.traces id t kept) end.0 end.1 used),
       used-changed t.id kept_for_users r.traces queries (λ u. refl) (λ u. refl) was.used,
     )
@@ -209,12 +217,80 @@ pub whole_dropped : (s t : NodesKept) (r q : RegistryValue) (old new : List (Ent
     → KeepsFor t (stakes_under (ever s.given) (roots_kept q.traces)) → IsSoundHall s r old queries
     → IsSoundHall t q new queries
 whole_dropped s t r q old new id end queries seen loads ends same kept keeps was =
-    let after = dropped_stands s r q old id end queries loads ends was in
+    let after = ended_stands s r q old (Dropped id) id end queries (IsEndOf-dropped id)
+    (λ t kept. dropped_end r id t was.stands.sound loads kept) ends was in
     let (u, there, loading) = loads in
     let may : MayFollow (with_trees (ever s.given) old) (Dropped id) =
     sym (loads_told (AreTrees (ever s.given)) at_first r (with_trees (ever s.given) old) id u was.stands there)
     ∙ loading in
     whole_entry s t r q old new (Dropped id) queries queries seen may tt after.0 after.1 same kept keeps tt was
+
+-- a trace that is sealed ends, where a place is left
+pub record ClosesTrace (r : RegistryValue) (id : ℕ) (end : RegEnd) (q : RegistryValue) : Type 0 where
+  pub fits : FitsPlaces r 1
+  pub trace : Trace
+  pub kept : kept_trace r.traces id ≡ Some trace
+  pub is_open : open_trace r.traces id ≡ Some trace
+  pub on : trace.closing ≡ false
+  pub sealed : trace.loading ≡ false
+  pub ends : EndsIn r id end q
+
+pub closes_ended : (r q : RegistryValue) (id place : ℕ) (roots : List ℕ) → IsSoundRegistry r
+    → ClosesIn r id (close.Ended place roots) q → ClosesTrace r id (Ended place roots) q
+closes_ended r q id place roots sound (fits, t, seals, unused, is, are, becomes) =
+    let was = open_kept r.traces id t sound.rising seals.is_open in
+    record {
+      fits = fits;
+      trace = t;
+      kept = was.0;
+      is_open = seals.is_open;
+      on = was.1;
+      sealed = seals.sealed;
+      ends = (t, was.0, unused, is, are, becomes);
+    }
+
+pub closes_kept : (r q : RegistryValue) (id place : ℕ) → IsSoundRegistry r
+    → ClosesIn r id (close.Kept place) q → ClosesTrace r id (Kept place) q
+closes_kept r q id place sound (fits, t, seals, used, is, becomes) =
+    let was = open_kept r.traces id t sound.rising seals.is_open in
+    record {
+      fits = fits;
+      trace = t;
+      kept = was.0;
+      is_open = seals.is_open;
+      on = was.1;
+      sealed = seals.sealed;
+      ends = (t, was.0, used, is, becomes);
+    }
+
+-- so it has an end
+closed_end : (r q : RegistryValue) (id : ℕ) (end : RegEnd) (t : Trace) → ClosesTrace r id end q
+    → kept_trace r.traces id ≡ Some t → HasEnd r t
+closed_end r q id end t closes kept =
+    let same : closes.trace ≡ t = same_Some closes.trace t (sym closes.kept ∙ kept) in
+    subst (HasEnd r) same (closes.on, omega (arith, closes.fits))
+
+-- it isn't loading, as the history tells
+pub closed_sealed : (s : NodesKept) (r q : RegistryValue) (old : List (EntryOf Root)) (id : ℕ) (end : RegEnd)
+    (queries : List AskIds) → ClosesTrace r id end q → IsSoundHall s r old queries
+    → is_loading (with_trees (ever s.given) old) id ≡ false
+closed_sealed s r q old id end queries closes was =
+    sym (loads_told (AreTrees (ever s.given)) at_first r (with_trees (ever s.given) old) id closes.trace
+    was.stands closes.kept) ∙ closes.sealed
+
+pub whole_closed : (s t : NodesKept) (r q : RegistryValue) (old new : List (EntryOf Root)) (id : ℕ)
+    (end : RegEnd) (queries : List AskIds) → new ≡ old ++ Closed id ∷ [] → ClosesTrace r id end q
+    → ever t.given ≡ ever s.given → AreKept t
+    → KeepsFor t (stakes_under (ever s.given) (roots_kept q.traces)) → IsSoundHall s r old queries
+    → IsSoundHall t q new queries
+whole_closed s t r q old new id end queries seen closes same kept keeps was =
+    let after = ended_stands s r q old (Closed id) id end queries (IsEndOf-closed id)
+    (λ u is. closed_end r q id end u closes is) closes.ends was in
+    let may : MayFollow (with_trees (ever s.given) old) (Closed id) = (
+      was.stands.opens id ∙ ap is_some closes.is_open,
+      closed_sealed s r q old id end queries closes was,
+    ) in
+    whole_entry s t r q old new (Closed id) queries queries seen may tt after.0 after.1 same kept keeps tt was
 
 -- a trace that is gone takes its roots along, and one that is kept leaves them
 pub ended_roots : (r q : RegistryValue) (id place : ℕ) (roots : List ℕ)
@@ -229,19 +305,3 @@ pub kept_roots : (r q : RegistryValue) (id place : ℕ) → EndsIn r id (Kept pl
     → roots_kept q.traces ≡ roots_kept r.traces
 kept_roots r q id place (t, kept, used, is, becomes) = ap (λ (r : RegistryValue). roots_kept r.traces) becomes
     ∙ roots-changed t.id kept_for_users (λ u. refl) r.traces
-
--- a trace that is given up is promised at least one place
-pub fewer_promised : (r q : RegistryValue) (id : ℕ) (end : RegEnd) → IsLoadingTrace r id → EndsIn r id end q
-    → 1 ≤ r.promised → q.promised + 1 ≤ r.promised
-fewer_promised r q id (Ended place roots) (u, found, loading) (t, kept, unused, is, are, becomes) some =
-    let same : t ≡ u = cc in
-    let loads : t.loading ≡ true = ap (λ (v : Trace). v.loading) same ∙ loading in
-    let one : promise_of t ≡ length t.tracks - published_tracks t + 1 =
-    ap (λ b. cond b (length t.tracks - published_tracks t + 1) 0) loads in
-    omega (arith, some, one, ap (λ (r : RegistryValue). r.promised) becomes)
-fewer_promised r q id (Kept place) (u, found, loading) (t, kept, used, is, becomes) some =
-    let same : t ≡ u = cc in
-    let loads : t.loading ≡ true = ap (λ (v : Trace). v.loading) same ∙ loading in
-    let one : promise_of t ≡ length t.tracks - published_tracks t + 1 =
-    ap (λ b. cond b (length t.tracks - published_tracks t + 1) 0) loads in
-    omega (arith, some, one, ap (λ (r : RegistryValue). r.promised) becomes)

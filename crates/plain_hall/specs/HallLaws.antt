@@ -10,6 +10,7 @@ use Rattle.hall_trait.specs.Answers.{HasRoom}
 use Rattle.hall_history.specs.History.{EntryOf}
 use Rattle.hall_history.specs.declared.asks.AskIds.{AskIds}
 use Rattle.node_key.specs.declared.stake.Stake.{Stake}
+use Rattle.node_key.specs.Leads.{here}
 use Rattle.node_key.specs.Stands.{Stands}
 use Rattle.node_key.specs.declared.key.NodeKey.{NodeKey}
 use Rattle.shard_core.specs.Room.{Stored}
@@ -18,6 +19,7 @@ use Rattle.node_store.proofs.TreesUnder.{stands_still}
 use Rattle.node_store.specs.Given.{ever, stakes_of}
 use Rattle.node_store.specs.Kept.{AreKept, KeepsFor, NodesKept}
 use Rattle.registry_core.specs.Registry.{RegistryValue}
+use Rattle.plain_hall.specs.Reaching.{ReachesByStake}
 use Rattle.plain_hall.specs.Rooted.{with_trees}
 use Rattle.plain_hall.specs.Whole.{IsSoundHall}
 use Rattle.plain_hall.specs.declared.root.Root.{Root}
@@ -32,8 +34,8 @@ room_left whole = omega (arith, whole.stands.place, whole.stands.promised, whole
 key_given : (nodes : NodesKept) (n : ℕ) (key : NodeKey) → AreKept nodes → (o : Option Stored)
     → node_in nodes.rooms n ≡ o → option_map (λ (s : Stored). s.key) o ≡ Some key
     → ever nodes.given n ≡ Some key
-key_given nodes n key kept None here at = absurd (none-some key at)
-key_given nodes n key kept (Some s) here at = kept.keys n s here ∙ at
+key_given nodes n key kept None there at = absurd (none-some key at)
+key_given nodes n key kept (Some s) there at = kept.keys n s there ∙ at
 
 -- each stake that the store is kept for is on the node of its tree
 pub held_stands : (nodes : NodesKept) (others : List Stake) (x : Stake) → AreKept nodes
@@ -50,3 +52,12 @@ pub stakes_stand : {nodes : NodesKept} {r : RegistryValue} {entries : List (Entr
     → Contains (stakes_of nodes.given) x → Stands (ever nodes.given) x.number x.tree
 stakes_stand {nodes} whole x there =
     held_stands nodes _ x whole.store whole.roots (Contains-append_left (stakes_of nodes.given) _ x there)
+
+-- the owner reaches what its stakes are on
+pub staked_reached : {nodes : NodesKept} {r : RegistryValue} {entries : List (EntryOf Root)}
+    {queries : List AskIds} → IsSoundHall nodes r entries queries → (x : Stake)
+    → Contains (stakes_of nodes.given) x → ReachesByStake nodes x x.number x.tree
+staked_reached whole x there = record {
+  has = there;
+  leads = record { led = here; stands = stakes_stand whole x there };
+}

@@ -2,7 +2,7 @@
 use Rattle.std.specs.Prelude.{ℕ, List, [], ◌∷◌, ◌++◌, replicate}
 use Rattle.std.specs.List.{flat_map}
 use Rattle.std.specs.Arc.{arc_value}
-use Rattle.hall_history.specs.History.{EntryOf, Opened, Published, Sealed, Dropped, Asked}
+use Rattle.hall_history.specs.History.{EntryOf, Opened, Published, Sealed, Dropped, Closed, Asked}
 use Rattle.plain_hall.specs.declared.kept_entry.HistoryEntry.{HistoryEntry}
 use Rattle.plain_hall.specs.declared.kept_entry.HistoryEntry.TheVariants as kept
 use Rattle.plain_hall.specs.declared.kept_entry.KeptEntry.{KeptEntry}
@@ -14,6 +14,7 @@ entry_of (kept.Opened id info) = Opened id (arc_value info)
 entry_of (kept.Published id track root) = Published id track root
 entry_of (kept.Sealed id) = Sealed id
 entry_of (kept.Dropped id) = Dropped id
+entry_of (kept.Closed id) = Closed id
 
 -- the questions before it, and the entry
 abbrev pub block_of : KeptEntry → List (EntryOf Root)

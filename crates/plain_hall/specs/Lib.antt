@@ -6,6 +6,8 @@ pub mod Loading
 pub mod Orderly
 pub mod PlainHall
 pub mod PlainSeat
+pub mod Profiles
+pub mod Reaching
 pub mod Rooted
 pub mod StandsProps
 pub mod StoreProps

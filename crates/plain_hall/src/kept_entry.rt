@@ -14,6 +14,8 @@ pub enum HistoryEntry {
     Sealed(u64),
     /// Its loading was dropped.
     Dropped(u64),
+    /// It was closed.
+    Closed(u64),
 }
 
 /// An entry, and how many questions come right before it.

@@ -10,6 +10,8 @@ mod faults;
 #[cfg(test)]
 mod lex;
 #[cfg(test)]
+mod linked;
+#[cfg(test)]
 mod printing;
 #[cfg(test)]
 mod rows;

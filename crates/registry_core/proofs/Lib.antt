@@ -23,6 +23,8 @@ pub mod StandsPromised
 pub mod StandsPublished
 pub mod StandsSealed
 pub mod StandsStarted
+pub mod ToldCalls
+pub mod ToldStays
 pub mod ToldTracks
 pub mod Users
 pub mod UsedByQueries

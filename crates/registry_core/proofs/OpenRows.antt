@@ -18,9 +18,10 @@ use Rattle.list_lemmas.proofs.Maps.{map_told}
 use Rattle.list_lemmas.proofs.Members.{filter-keeps, has_cons, has_here, has_there}
 use Rattle.list_lemmas.proofs.Ranges.{range_rises}
 use Rattle.hall_history.specs.History.{EntryOf, is_open, open_ids, opened_ids, tracks_of}
+use Rattle.hall_history.specs.Listing.{listed_rows, row_told}
 use Rattle.registry_core.specs.Closing.{rows_of}
 use Rattle.registry_core.specs.Registry.{RegistryValue, is_open_trace, open_count, open_trace}
-use Rattle.registry_core.specs.Standing.{KeepsTrace, RootsAre, StandsFor, Start, row_told}
+use Rattle.registry_core.specs.Standing.{KeepsTrace, RootsAre, StandsFor, Start}
 use Rattle.registry_core.specs.Trace.{IsSoundTrace, Trace, list_row}
 use Rattle.registry_core.proofs.FilteredLists.{rising-filter}
 use Rattle.registry_core.proofs.KeepsMore.{tracks_told}
@@ -124,7 +125,7 @@ row_is are start place entries t keeps sound =
 -- the rows of the registry are those that its history tells
 pub rows_told : {X : Type 0} (are : RootsAre X) (start : Start) (r : RegistryValue)
     (entries : List (EntryOf X)) → StandsFor are start r entries
-    → rows_of r ≡ map (row_told entries) (open_ids entries)
+    → rows_of r ≡ listed_rows entries
 rows_told are start r entries stands =
     let each : All (λ t. list_row t ≡ row_told entries t.id) r.traces = λ k d lt.
     let t = get_or r.traces k d in

@@ -62,7 +62,7 @@ used-changed id f traces queries ids users was = record {
 -- ---- a trace without users is gone
 
 -- the others are found as before
-kept-without : (id other : ℕ) (traces : List Trace) → eqb id other ≡ false
+pub kept-without : (id other : ℕ) (traces : List Trace) → eqb id other ≡ false
     → kept_trace (without_trace id traces) other ≡ kept_trace traces other
 kept-without id other [] ne = refl
 kept-without id other (t ∷ traces) ne = elim (cases_Bool (eqb t.id id)) [
@@ -176,49 +176,62 @@ asked_either a b = (
   ),
 )
 
+-- what holds of each id that is asked for, said of their list
+pub all_asked : (P : ℕ → Type 0) (ids : AskIds) → ((id : ℕ) → 0 < times_asked ids id → P id)
+    → All P (asked_ids ids)
+all_asked P (One a) each = All-one P a (each a (asked_first a))
+all_asked P (Two a b) each = All-two P a b (each a (asked_either a b).0) (each b (asked_either a b).1)
+
 pub used-in_use : (r : RegistryValue) (ids : AskIds) (queries : List AskIds)
     → AreUsedBy r.traces (ids ∷ queries) → AreUsed r ids
-used-in_use r (One a) queries was =
-    All-one (λ id. (t : Trace) × (kept_trace r.traces id ≡ Some t) × (times_asked (One a) id ≤ t.users)) a
-    (named-in_use r (One a) queries a was (asked_first a))
-used-in_use r (Two a b) queries was =
-    All-two (λ id. (t : Trace) × (kept_trace r.traces id ≡ Some t) × (times_asked (Two a b) id ≤ t.users)) a b
-    (named-in_use r (Two a b) queries a was (asked_either a b).0)
-    (named-in_use r (Two a b) queries b was (asked_either a b).1)
+used-in_use r ids queries was =
+    all_asked (λ id. (t : Trace) × (kept_trace r.traces id ≡ Some t) × (times_asked ids id ≤ t.users)) ids
+    (λ id named. named-in_use r ids queries id was named)
 
 -- a trace with a user isn't over
-used-on : (t : Trace) → 0 < t.users → not (is_over t) ≡ true
+pub used-on : (t : Trace) → 0 < t.users → not (is_over t) ≡ true
 used-on t used =
     let some : eqb t.users 0 ≡ false = grind (arith, nat_tests) in
     ap not (and_right t.closing (eqb t.users 0) some)
 
-pub used-given_back : (ids : AskIds) (traces : List Trace) (queries : List AskIds) → IsRising traces
-    → AreUsedBy traces (ids ∷ queries)
-    → AreUsedBy (filter (λ t. not (is_over t)) (without_users ids traces)) queries
-used-given_back ids traces queries up was = record {
-  users = All-filter left (HasUsers queries) (without_users ids traces) (All-map (HasUsers queries) less
-      traces (All-weaker (HasUsers (ids ∷ queries)) (λ t. HasUsers queries (less t)) (λ t has.
-      omega (arith, has, named-first ids queries t.id)) traces was.users));
-  kept = λ id named.
-      let (t, kept) = given_some (kept_trace traces id)
-      (was.kept id (omega (arith, named, named-first ids queries id))) in
-      let has = All-found (HasUsers (ids ∷ queries)) (has_id id) traces t was.users kept in
-      let used : 0 < (less t).users = omega (
-        arith,
-        has,
-        named,
-        ap (times_named queries) (kept_id traces id t kept),
-        named-first ids queries t.id,
-      ) in
-      let found : find (λ u. has_id id u && left (less u)) traces ≡ Some t =
-      find-has_id (λ u. left (less u)) id traces up ∙ ap (option_filter (λ u. left (less u))) kept
-      ∙ ap (λ b. cond b (Some t) None) (used-on (less t) used) in
-      ap is_some (find-filter (has_id id) left (without_users ids traces)
-      ∙ find-map (λ u. has_id id u && left u) less traces ∙ ap (option_map less) found);
-}
+-- so it is left where others are given back
+pub kept-given_back : (ids : AskIds) (traces : List Trace) (id : ℕ) (t : Trace) → IsRising traces
+    → kept_trace traces id ≡ Some t → times_asked ids t.id < t.users
+    → kept_trace (filter (λ t. not (is_over t)) (without_users ids traces)) id
+    ≡ Some (used_less (times_asked ids t.id) t)
+kept-given_back ids traces id t up kept used =
+    let found : find (λ u. has_id id u && left (less u)) traces ≡ Some t =
+    find-has_id (λ u. left (less u)) id traces up ∙ ap (option_filter (λ u. left (less u))) kept
+    ∙ ap (λ b. cond b (Some t) None) (used-on (less t) (omega (arith, used))) in
+    find-filter (has_id id) left (without_users ids traces)
+    ∙ find-map (λ u. has_id id u && left u) less traces ∙ ap (option_map less) found
   where
     less : Trace → Trace
     less t = used_less (times_asked ids t.id) t
 
     left : Trace → Bool
     left t = not (is_over t)
+
+pub used-given_back : (ids : AskIds) (traces : List Trace) (queries : List AskIds) → IsRising traces
+    → AreUsedBy traces (ids ∷ queries)
+    → AreUsedBy (filter (λ t. not (is_over t)) (without_users ids traces)) queries
+used-given_back ids traces queries up was = record {
+  users = All-filter (λ t. not (is_over t)) (HasUsers queries) (without_users ids traces)
+      (All-map (HasUsers queries) less traces (All-weaker (HasUsers (ids ∷ queries))
+      (λ t. HasUsers queries (less t)) (λ t has. omega (arith, has, named-first ids queries t.id)) traces
+      was.users));
+  kept = λ id named.
+      let (t, kept) = given_some (kept_trace traces id)
+      (was.kept id (omega (arith, named, named-first ids queries id))) in
+      let has = All-found (HasUsers (ids ∷ queries)) (has_id id) traces t was.users kept in
+      ap is_some (kept-given_back ids traces id t up kept (omega (
+        arith,
+        has,
+        named,
+        ap (times_named queries) (kept_id traces id t kept),
+        named-first ids queries t.id,
+      )));
+}
+  where
+    less : Trace → Trace
+    less t = used_less (times_asked ids t.id) t

@@ -5,5 +5,6 @@ pub mod Loading
 pub mod Registry
 pub mod Roots
 pub mod Standing
+pub mod Staying
 pub mod Trace
 pub mod UsedBy

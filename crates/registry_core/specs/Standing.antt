@@ -5,9 +5,8 @@ use Rattle.std.specs.Prelude.{Option, None, Some, is_some}
 use Rattle.std.specs.List.{list_any, range_with_len}
 use Rattle.hall_history.specs.History.{EntryOf, PublishedTree, ends, info_of}
 use Rattle.hall_history.specs.History.{is_loading, is_open, opened_ids, promised}
-use Rattle.hall_history.specs.History.{published_count, published_of, seals, tracks_of}
+use Rattle.hall_history.specs.History.{published_count, published_of, seals}
 use Rattle.node_key.specs.Stands.{KeyAt, Stands}
-use Rattle.hall_history.specs.declared.listing.ListRow.{ListRow}
 use Rattle.registry_core.specs.declared.track_root.TrackRoot.{TrackRoot}
 use Rattle.registry_core.specs.Registry.{IsSoundRegistry, RegistryValue, kept_trace, open_trace}
 use Rattle.registry_core.specs.Trace.{Trace, published_tracks}
@@ -67,12 +66,3 @@ pub record StandsFor {X : Type 0} (are : RootsAre X) (start : Start) (r : Regist
   pub untold : (id : ℕ) → r.next_id ≤ id → IsUntold entries id
   pub opens : (id : ℕ) → is_open entries id ≡ is_some (open_trace r.traces id)
   pub traces : (id : ℕ) (t : Trace) → kept_trace r.traces id ≡ Some t → KeepsTrace are start entries t
-
--- the row of a trace in a listing, as the history tells it
-abbrev pub row_told : {X : Type 0} → List (EntryOf X) → ℕ → ListRow
-row_told entries id = record {
-  id = id;
-  tracks = tracks_of entries id;
-  published = published_count entries id;
-  loading = is_loading entries id;
-}

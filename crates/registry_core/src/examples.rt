@@ -14,6 +14,7 @@ ghost use Rattle.registry_core.specs.Loading.{AdmitsIn, AwaitsSeal, AwaitsTrack,
 ghost use Rattle.registry_core.specs.Loading.{with_sealed};
 ghost use Rattle.registry_core.specs.Registry.{new_registry};
 ghost use Rattle.registry_core.specs.Roots.{ExchangesRoots, roots_freed_by, roots_kept, times_root};
+ghost use Rattle.registry_core.specs.Staying.{KeepsTold};
 ghost use Rattle.registry_core.specs.Trace.{published_by, roots_in};
 ghost use Rattle.registry_core.specs.UsedBy.{AreUsedBy, times_named};
 ghost use Rattle.registry_core.specs.declared.answers.RegAsk.TheVariants as ask;
@@ -57,6 +58,15 @@ pub fn told_by_places()
     ensures early { published_by (loading_trace 1 both) 6 1 ≡ NotYet }
     ensures in_time { published_by (loading_trace 1 both) 7 1 ≡ Root 2 41 }
     ensures no_track { published_by (loading_trace 1 both) 8 2 ≡ NotYet }
+{}
+
+/// What was told of its first track stays when the second is published. It is lost where the trace is gone,
+/// or where another root stands in the slot.
+pub fn told_or_lost()
+    ensures stays { KeepsTold (in_use_at 6) (with_one 7 1 (loading_trace 1 both)) (One 1) 6 }
+    ensures gone { KeepsTold (in_use_at 6) (with_none 6) (One 1) 6 → ⊥ }
+    ensures other_root { KeepsTold (in_use_at 8)
+        (with_one 8 2 (loading_trace 1 (Some second_root ∷ None ∷ []))) (One 1) 8 → ⊥ }
 {}
 
 /// A trace that is closed with two users: it is kept, and gone with the second.

@@ -1,7 +1,7 @@
 //! The tie between a registry and the history of its hall, for whoever keeps one: a law for each call, over a
 //! registry that stands for the entries so far. The statements are the clauses; the bodies are empty.
 ghost use Rattle.std.specs.Prelude.{◌≡◌, ◌+◌, ◌-◌, ◌≤◌, [], ◌∷◌, ◌++◌, ℕ, List, Ok, Err, None, Some, length};
-ghost use Rattle.std.specs.Prelude.{map, take};
+ghost use Rattle.std.specs.Prelude.{take};
 ghost use Rattle.trace_base.specs.Info.{IsLegalInfo};
 ghost use Rattle.hall_history.specs.declared.asks.AskIds.{AskIds};
 ghost use Rattle.trace_base.specs.declared.limits.TheConstants.{MAX_PLACES};
@@ -10,6 +10,7 @@ ghost use Rattle.trace_base.specs.declared.names.TraceInfo.{TraceInfo};
 ghost use Rattle.hall_history.specs.declared.published.Published.TheVariants as told;
 ghost use Rattle.hall_history.specs.History.{Asked, Closed, Dropped, Entry, Opened, Published, PublishedTree};
 ghost use Rattle.hall_history.specs.History.{IsTrackTree, MayFollow, Sealed, open_ids, published_of};
+ghost use Rattle.hall_history.specs.Listing.{listed_rows};
 ghost use Rattle.node_key.specs.Stands.{KeyAt, Stands};
 ghost use Rattle.node_key.specs.Tree.{Tree};
 ghost use Rattle.registry_core.specs.Asking.{AreUsed, AsksIn, after_unpin};
@@ -17,7 +18,7 @@ ghost use Rattle.registry_core.specs.Closing.{ClosesIn, IsSealedTrace, ListsIn, 
 ghost use Rattle.registry_core.specs.Loading.{AdmitsIn, AwaitsSeal, AwaitsTrack, EndsIn, IsLoadingTrace};
 ghost use Rattle.registry_core.specs.Loading.{with_published, with_sealed};
 ghost use Rattle.registry_core.specs.Registry.{RegistryValue, kept_trace, new_registry, open_count};
-ghost use Rattle.registry_core.specs.Standing.{AreTrees, StandsFor, Start, row_told};
+ghost use Rattle.registry_core.specs.Standing.{AreTrees, StandsFor, Start};
 ghost use Rattle.registry_core.specs.Trace.{Trace, published_by};
 ghost use Rattle.registry_core.specs.declared.answers.Opened.{Opened as OpenedTrace};
 ghost use Rattle.registry_core.specs.declared.answers.RegAsk.TheVariants as ask;
@@ -118,8 +119,7 @@ pub fn listing()
 /// published of a kept trace's track by a place.
 pub fn telling()
     ensures rows { (key_at : KeyAt) (start : Start) (r : RegistryValue) (entries : List Entry)
-        → StandsFor (AreTrees key_at) start r entries
-        → rows_of r ≡ map (row_told entries) (open_ids entries) }
+        → StandsFor (AreTrees key_at) start r entries → rows_of r ≡ listed_rows entries }
     ensures open_traces { (key_at : KeyAt) (start : Start) (r : RegistryValue) (entries : List Entry)
         → StandsFor (AreTrees key_at) start r entries → open_count r.traces ≡ length (open_ids entries) }
     ensures published { (key_at : KeyAt) (start : Start) (r : RegistryValue) (entries : List Entry)

@@ -28,7 +28,13 @@ const COUNTS: CallCounts = CallCounts {
     ask: 1,
     published: 1,
     info: 1,
+    same: 0,
+    same_names: 0,
     unpin: 1,
+    close: 0,
+    list: 0,
+    memo_look: 0,
+    memo_fill: 0,
 };
 
 #[test]

@@ -1,4 +1,4 @@
--- Where a number and a key stand, and what becomes of the tables when a key is entered.
+-- Where a number and a key stand, and what becomes of the tables when a key is added.
 use Rattle.std.proofs.Common.{◌≡◌, ℕ, ◌<◌, true, false, List, length, nat_eq}
 use Rattle.std.proofs.Common.{slice_get, Option, Some, None, sym, ap, ◌∙◌, subst, arith}
 use Rattle.std.proofs.Common.{get_or, position, IfSome, IfNone, is_some, unwrap_or}

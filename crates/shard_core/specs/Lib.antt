@@ -1,6 +1,6 @@
 pub mod Digest
-pub mod Entering
 pub mod Examples
+pub mod FindingOrAdding
 pub mod Interning
 pub mod Laws
 pub mod Listed

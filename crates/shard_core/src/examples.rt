@@ -15,10 +15,10 @@ pub fn last_number_of_a_room()
     ensures index { last_given.next ≡ 1099511627776 }
 {}
 
-/// What is under numbers: of a room without nodes, after a node is entered, counted again, and removed.
+/// What is under numbers: of a room without nodes, after a node is added, counted again, and removed.
 pub fn nodes_under_numbers()
     ensures nothing { node_at one_left last_number ≡ None }
-    ensures entered { node_at last_given last_number ≡ Some (record { key = leaf_of_three; count = 1 }) }
+    ensures added { node_at last_given last_number ≡ Some (record { key = leaf_of_three; count = 1 }) }
     ensures elsewhere { node_at last_given 3 ≡ None }
     ensures counted { node_at (counted 2) last_number ≡ Some (record { key = leaf_of_three; count = 2 }) }
     ensures removed { node_at (without last_given last_number) last_number ≡ None }

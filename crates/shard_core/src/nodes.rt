@@ -19,7 +19,7 @@ pub(crate) struct Nodes {
 }
 
 /// What came of a key.
-pub(crate) enum Entered {
+pub(crate) enum FoundOrAdded {
     /// It was there, at this place.
     There(usize),
     /// It went last.
@@ -46,7 +46,7 @@ impl Model for Nodes {
 impl Nodes {
     ghost use Rattle.shard_core.specs.Room.{Stored};
     ghost use Rattle.shard_core.specs.Listed.{LacksKey};
-    ghost use Rattle.shard_core.specs.Entering.{Enters};
+    ghost use Rattle.shard_core.specs.FindingOrAdding.{FindsOrAdds};
 
     /// No nodes. It takes no memory.
     pub(crate) fn new(alloc: Global) -> Nodes
@@ -118,23 +118,23 @@ impl Nodes {
         }
     }
 
-    /// Finds the key, or enters it under a number that no node has.
-    pub(crate) fn enter(&mut self, key: HashedKey, number: u64) -> Entered
+    /// Finds the key, or adds it under a number that no node has.
+    pub(crate) fn find_or_add(&mut self, key: HashedKey, number: u64) -> FoundOrAdded
         requires { lookup (nat_eq number) self.old ≡ None }
-        ensures { Enters self.old key.key number result self.new }
+        ensures { FindsOrAdds self.old key.key number result self.new }
     {
         let (place, new) = match self.keys.insert_full(key) {
-            Ok(entered) => entered,
-            Err(_) => return Entered::NoMemory,
+            Ok(known) => known,
+            Err(_) => return FoundOrAdded::NoMemory,
         };
         if !new {
-            return Entered::There(place);
+            return FoundOrAdded::There(place);
         }
         match self.counts.insert(number, 1) {
-            Ok(_) => Entered::Added,
+            Ok(_) => FoundOrAdded::Added,
             Err(_) => {
                 self.keys.pop();
-                Entered::NoMemory
+                FoundOrAdded::NoMemory
             }
         }
     }

@@ -15,7 +15,7 @@ ghost use Rattle.shard_core.specs.declared.answers.ShardFault.TheVariants.{Spent
 use crate::answers::{Dropped, Interned, ShardFault};
 use crate::hashed_key::HashedKey;
 use crate::limits::MAX_COUNT;
-use crate::nodes::{Entered, Nodes};
+use crate::nodes::{FoundOrAdded, Nodes};
 use node_key::{MAX_NUMBERS, NodeKey, STORE_ROOMS};
 use std::alloc::Global;
 use std::marker::Model;
@@ -81,7 +81,7 @@ impl Shard {
         }
     }
 
-    /// Enters a key of this room, or raises its count by one. `Spent` has the count of all numbers where they
+    /// Adds a key to this room, or raises its count by one. `Spent` has the count of all numbers where they
     /// are used up, or the greatest count where the key has it. A refusal changes nothing.
     pub fn know_or_add(&mut self, key: NodeKey) -> Result<Interned, ShardFault>
         requires { room key ≡ self.old.room }
@@ -97,13 +97,13 @@ impl Shard {
             };
         }
         let number = STORE_ROOMS * self.next + u64::from(self.room);
-        match self.nodes.enter(key, number) {
-            Entered::There(place) => raise(&mut self.nodes, place),
-            Entered::Added => {
+        match self.nodes.find_or_add(key, number) {
+            FoundOrAdded::There(place) => raise(&mut self.nodes, place),
+            FoundOrAdded::Added => {
                 self.next += 1;
                 Ok(Interned::New(number))
             }
-            Entered::NoMemory => Err(ShardFault::Memory),
+            FoundOrAdded::NoMemory => Err(ShardFault::Memory),
         }
     }
 

@@ -1,5 +1,6 @@
 pub mod CanonicKeys
 pub mod CanonicTrees
+pub mod ReachKept
 pub mod ReachNodes
 pub mod ReachStakes
 pub mod StepsAnswered

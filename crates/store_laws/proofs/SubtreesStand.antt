@@ -42,7 +42,7 @@ staked_subtrees held = flat_map subtrees (map (λ (x : Stake). x.tree) held)
 
 -- ---- what a reached node stands for
 
-kid_tree : (at : KeyAt) (ks : Kids) (ns : List ℕ) (k : Kid) → KidsStand at ns ks → IsAmong (numbered ks ns) k
+pub kid_tree : (at : KeyAt) (ks : Kids) (ns : List ℕ) (k : Kid) → KidsStand at ns ks → IsAmong (numbered ks ns) k
     → (u : Tree) × IsAmong (trees_below ks) u × Stands at k.node u
 kid_tree at no_kids ns k stand h = absurd h
 kid_tree at (kid gap func dur inner more) [] k stand h = absurd stand

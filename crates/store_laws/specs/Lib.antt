@@ -1,3 +1,4 @@
 pub mod Store
 pub mod Counted
 pub mod Reached
+pub mod StoreSteps

@@ -1,6 +1,1 @@
-mod CountingWork
-mod NineCalls
 mod Owning
-mod SampleLoads
-mod SampleStakes
-mod SampleTracks

@@ -6,12 +6,12 @@ ghost use Rattle.node_key.specs.declared.stake.Stake.{Stake};
 ghost use Rattle.node_store.specs.Answering.{Owns, answered_number};
 ghost use Rattle.node_store.specs.Kept.{KeepsFor};
 
-use crate::samples::{key_of_f, key_of_main, key_of_track};
 use node_key::MAX_NUMBERS;
 use node_store::NodeStore;
 use shard_core::{Interned, ShardFault};
 use std::process::Abort;
 use std::test::Fail;
+use test_keys::{key_of_f, key_of_main, key_of_track};
 
 fn number(answer: Interned) -> u64
     ensures { result ≡ answered_number answer }

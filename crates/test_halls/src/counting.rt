@@ -1,10 +1,11 @@
-use hall_history::{AskIds, Published};
-use hall_trait::{AskAnswer, Hall, HallFault, LoadPass, Pin};
+use hall_history::{AskIds, Listing, Published};
+use hall_trait::{AskAnswer, CloseAnswer, Hall, HallFault, LoadPass, Pin};
 use node_key::NodeKey;
 use shard_core::Interned;
 use std::alloc::Global;
 use std::sync::{Arc, Wait};
 use trace_base::TraceInfo;
+use whole_profiles::{Entry, MemoKind};
 
 /// How often each call of a hall was made. A count stands still at the end of its type.
 #[derive(Clone, Copy, Debug, PartialEq, Eq)]
@@ -19,7 +20,13 @@ pub struct CallCounts {
     pub ask: u64,
     pub published: u64,
     pub info: u64,
+    pub same: u64,
+    pub same_names: u64,
     pub unpin: u64,
+    pub close: u64,
+    pub list: u64,
+    pub memo_look: u64,
+    pub memo_fill: u64,
 }
 
 /// A hall that counts the calls that are made of it, each before the hall inside serves it. In all else it is
@@ -50,24 +57,22 @@ impl<H: Hall> CountingHall<H> {
                 ask: 0,
                 published: 0,
                 info: 0,
+                same: 0,
+                same_names: 0,
                 unpin: 0,
+                close: 0,
+                list: 0,
+                memo_look: 0,
+                memo_fill: 0,
             },
         }
     }
 }
 
 impl<H: Hall> Hall for CountingHall<H> {
-    ghost seat = { λ h. H.seat h.inner };
+    ghost view = { λ h. H.view h.inner };
 
-    ghost alone = { H.alone };
-
-    ghost reaches = { λ h n t. H.reaches h.inner n t };
-
-    ghost used_up = { λ h. H.used_up h.inner };
-
-    ghost work = { λ h. H.work h.inner };
-
-    ghost rooms = { λ h. H.rooms h.inner };
+    ghost reaches = { λ h by_what n t. H.reaches h.inner by_what n t };
 
     ghost legal = { λ h. H.legal h.inner };
 
@@ -134,8 +139,43 @@ impl<H: Hall> Hall for CountingHall<H> {
         self.inner.info(rt, pin, which)
     }
 
+    fn same<R: Wait>(&mut self, rt: &R, pin: &Pin, a: u64, b: u64) -> bool {
+        self.counts.same = self.counts.same.saturating_add(1);
+        self.inner.same(rt, pin, a, b)
+    }
+
+    fn same_names<R: Wait>(&mut self, rt: &R, pin: &Pin) -> bool {
+        self.counts.same_names = self.counts.same_names.saturating_add(1);
+        self.inner.same_names(rt, pin)
+    }
+
     fn unpin<R: Wait>(&mut self, rt: &R, pin: Pin) {
         self.counts.unpin = self.counts.unpin.saturating_add(1);
         self.inner.unpin(rt, pin);
+    }
+
+    fn close<R: Wait>(&mut self, rt: &R, id: u64) -> CloseAnswer {
+        self.counts.close = self.counts.close.saturating_add(1);
+        self.inner.close(rt, id)
+    }
+
+    fn list<R: Wait>(&mut self, rt: &R) -> Result<Listing, HallFault> {
+        self.counts.list = self.counts.list.saturating_add(1);
+        self.inner.list(rt)
+    }
+
+    fn memo_look<R: Wait>(
+        &mut self,
+        rt: &R,
+        n: u64,
+        kind: MemoKind,
+    ) -> Result<Option<Entry>, HallFault> {
+        self.counts.memo_look = self.counts.memo_look.saturating_add(1);
+        self.inner.memo_look(rt, n, kind)
+    }
+
+    fn memo_fill<R: Wait>(&mut self, rt: &R, n: u64, kind: MemoKind, entry: Entry) {
+        self.counts.memo_fill = self.counts.memo_fill.saturating_add(1);
+        self.inner.memo_fill(rt, n, kind, entry);
     }
 }

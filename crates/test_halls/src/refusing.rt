@@ -1,10 +1,11 @@
-use hall_history::{AskIds, Published};
-use hall_trait::{AskAnswer, Hall, HallFault, LoadPass, Pin};
+use hall_history::{AskIds, Listing, Published};
+use hall_trait::{AskAnswer, CloseAnswer, Hall, HallFault, LoadPass, Pin};
 use node_key::NodeKey;
 use shard_core::Interned;
 use std::alloc::Global;
 use std::sync::{Arc, Wait};
 use trace_base::TraceInfo;
+use whole_profiles::{Entry, MemoKind};
 
 /// Which call finds no memory: the one with this number, counted from 0, of those that may want it.
 #[derive(Clone, Copy, Debug, PartialEq, Eq)]
@@ -30,7 +31,8 @@ impl Refusal {
     }
 }
 
-/// A hall in which one call of `intern`, `admit` and `info` finds no memory. In all else it is the hall inside.
+/// A hall in which one call finds no memory, of `intern`, `admit`, `info`, `list` and those of `memo_look` that find
+/// a profile. In all else it is the hall inside.
 #[derive(Drop)]
 pub struct RefusingHall<H> {
     pub inner: H,
@@ -54,17 +56,9 @@ impl<H: Hall> RefusingHall<H> {
 }
 
 impl<H: Hall> Hall for RefusingHall<H> {
-    ghost seat = { λ h. H.seat h.inner };
+    ghost view = { λ h. H.view h.inner };
 
-    ghost alone = { H.alone };
-
-    ghost reaches = { λ h n t. H.reaches h.inner n t };
-
-    ghost used_up = { λ h. H.used_up h.inner };
-
-    ghost work = { λ h. H.work h.inner };
-
-    ghost rooms = { λ h. H.rooms h.inner };
+    ghost reaches = { λ h by_what n t. H.reaches h.inner by_what n t };
 
     ghost legal = { λ h. H.legal h.inner };
 
@@ -72,7 +66,7 @@ impl<H: Hall> Hall for RefusingHall<H> {
 
     ghost staked = { λ h x there. H.staked h.inner x there };
 
-    #[tactic(auto, using(hall_trait::proofs::Nexts::nexts_same))]
+    #[tactic(auto, using(hall_trait::proofs::Views::nexts_same))]
     fn intern<R: Wait>(&mut self, rt: &R, key: NodeKey) -> Result<Interned, HallFault> {
         if self.refusal.comes() {
             return Err(HallFault::Memory);
@@ -88,7 +82,7 @@ impl<H: Hall> Hall for RefusingHall<H> {
         self.inner.release(rt, n);
     }
 
-    #[tactic(auto, using(hall_trait::proofs::Nexts::nexts_same))]
+    #[tactic(auto, using(hall_trait::proofs::Views::nexts_same))]
     fn admit<R: Wait>(
         &mut self,
         rt: &R,
@@ -120,7 +114,7 @@ impl<H: Hall> Hall for RefusingHall<H> {
         self.inner.published(rt, pin, which, track)
     }
 
-    #[tactic(auto, using(hall_trait::proofs::Nexts::nexts_same))]
+    #[tactic(auto, using(hall_trait::proofs::Views::nexts_same))]
     fn info<R: Wait>(
         &mut self,
         rt: &R,
@@ -133,7 +127,44 @@ impl<H: Hall> Hall for RefusingHall<H> {
         self.inner.info(rt, pin, which)
     }
 
+    fn same<R: Wait>(&mut self, rt: &R, pin: &Pin, a: u64, b: u64) -> bool {
+        self.inner.same(rt, pin, a, b)
+    }
+
+    fn same_names<R: Wait>(&mut self, rt: &R, pin: &Pin) -> bool {
+        self.inner.same_names(rt, pin)
+    }
+
     fn unpin<R: Wait>(&mut self, rt: &R, pin: Pin) {
         self.inner.unpin(rt, pin);
+    }
+
+    fn close<R: Wait>(&mut self, rt: &R, id: u64) -> CloseAnswer {
+        self.inner.close(rt, id)
+    }
+
+    #[tactic(auto, using(hall_trait::proofs::Views::nexts_same))]
+    fn list<R: Wait>(&mut self, rt: &R) -> Result<Listing, HallFault> {
+        if self.refusal.comes() {
+            return Err(HallFault::Memory);
+        }
+        self.inner.list(rt)
+    }
+
+    fn memo_look<R: Wait>(
+        &mut self,
+        rt: &R,
+        n: u64,
+        kind: MemoKind,
+    ) -> Result<Option<Entry>, HallFault> {
+        let found = self.inner.memo_look(rt, n, kind)?;
+        if found.is_some() && self.refusal.comes() {
+            return Err(HallFault::Memory);
+        }
+        Ok(found)
+    }
+
+    fn memo_fill<R: Wait>(&mut self, rt: &R, n: u64, kind: MemoKind, entry: Entry) {
+        self.inner.memo_fill(rt, n, kind, entry);
     }
 }

@@ -1,5 +1,5 @@
 -- The ends of a session.
-use Rattle.std.proofs.Common.{◌≡◌, ◌≢◌, ℕ, Bool, List, [], ◌∷◌, ◌++◌, length, Option, None, Some, refl, sym}
+use Rattle.std.proofs.Common.{◌≡◌, ◌≢◌, ℕ, List, [], ◌∷◌, ◌++◌, length, Option, None, Some, refl, sym}
 use Rattle.std.proofs.Common.{ap, ◌∙◌, subst, append_assoc}
 use Rattle.std.proofs.lemmas.List.{append-nil}
 use Rattle.trace_base.specs.Outside.{Told}
@@ -18,7 +18,8 @@ use Rattle.trace_session.specs.Output.{WritesFront}
 use Rattle.trace_session.specs.Served.{Served}
 use Rattle.trace_session.specs.Session.{IsSession, ReadsRequests, WritesReplies, Answers, LeavesNothing}
 use Rattle.trace_session.specs.Session.{requests_served}
-use Rattle.trace_session.specs.State.{Backend, SessionState}
+use Rattle.hall_trait.specs.View.{HallView}
+use Rattle.trace_session.specs.State.{SessionState}
 use Rattle.trace_session.specs.Step.{Steps, TakesOne, TakesNone}
 use Rattle.trace_session.specs.declared.sessions.End.{End}
 use Rattle.trace_session.specs.declared.sessions.End.TheVariants as ends
@@ -53,22 +54,21 @@ taken_then served Q a b c =
     ))
 
 -- what was done stays done where nothing more is
-done_still : (alone : Bool) (old now new : Backend) (served : List Served) → new ≡ now
-    → Done alone old now served
-    → Done alone old new served
-done_still alone old now new served same d = subst (λ (n : Backend). Done alone old n served) (sym same) d
+done_still : (old now new : HallView) (served : List Served) → new ≡ now → Done old now served
+    → Done old new served
+done_still old now new served same d = subst (λ (n : HallView). Done old n served) (sym same) d
 
 -- the source ended or failed, and nothing waits; `src` is what the source has left
-ended : (end : End) (Q : List ℕ → List ℕ → Type 0) (alone : Bool) (old now new : SessionState)
+ended : (end : End) (Q : List ℕ → List ℕ → Type 0) (old now new : SessionState)
     (src : Option (List ℕ)) (pending : List ℕ) → new.left ≡ left_to_read pending src
-    → (s : Sofar alone old now) → TakesNone now new Q → pending ≡ []
+    → (s : Sofar old now) → TakesNone now new Q → pending ≡ []
     → ((given bytes is : List ℕ) → Spell given (requests_served s.served) → first_request bytes ≡ None
     → Q bytes is → Answers end (requests_of (given ++ bytes)) s.served)
     → ((bytes is : List ℕ) → Q bytes is → LeavesNothing end is)
     → ((was is : List ℕ) → HasWritten s.served was is → WritesReplies end was is s.served)
-    → IsLegalHistory new.backend.seat.seen → IsSession alone old (record new { left = src }) end
-ended end Q alone old now new src pending lies s t none answers leaves writes legal =
-    let d = done_still alone old.backend now.backend new.backend s.served t.backend s.done in
+    → IsLegalHistory new.hall.seat.seen → IsSession old (record new { left = src }) end
+ended end Q old now new src pending lies s t none answers leaves writes legal =
+    let d = done_still old.hall now.hall new.hall s.served t.hall s.done in
     let out = subst (λ (h : Option (List ℕ)). Told old.held h (HasWritten s.served)) (sym t.held) s.output in
     let is_left : new.left ≡ left_to_read [] src = lies ∙ ap (λ (p : List ℕ). left_to_read p src) none in
     let took = subst (λ (l : Option (List ℕ)). Told now.left l (λ was is. (bytes : List ℕ)
@@ -87,8 +87,7 @@ ended end Q alone old now new src pending lies s t none answers leaves writes le
       places = d.places;
       lone = d.lone;
       rest = d.rest;
-      records = d.records;
-      nexts = d.nexts;
+      goes_on = d.goes_on;
       of_store = d.of_store;
       input = told_pending [] (HasTaken s.served (λ bytes is. (first_request bytes ≡ None) × Q bytes is))
           (λ was is. ReadsRequests end was is s.served) old.left src
@@ -149,20 +148,20 @@ failed_answers served given bytes is spell none q =
     )
 
 -- a request was the last; `src` is what the source has left
-one_ended : (end : End) (alone : Bool) (old now new : SessionState) (src : Option (List ℕ)) (pending : List ℕ)
-    → new.left ≡ left_to_read pending src → (s : Sofar alone old now)
-    → (t : TakesOne alone now new (Some end))
+one_ended : (end : End) (old now new : SessionState) (src : Option (List ℕ)) (pending : List ℕ)
+    → new.left ≡ left_to_read pending src → (s : Sofar old now)
+    → (t : TakesOne now new (Some end))
     → ((given bytes : List ℕ) → Spell given (requests_served s.served) → Spells bytes t.request
     → Answers end (requests_of (given ++ bytes ++ pending))
-    (one_more s.served t.request (length now.backend.seat.seen) t.answers.serves.block t.answers.reply))
+    (one_more s.served t.request (length now.hall.seat.seen) t.answers.serves.block t.answers.reply))
     → ((is : List ℕ) → LeavesNothing end is)
     → Told old.held new.held (λ was is. WritesReplies end was is
-    (one_more s.served t.request (length now.backend.seat.seen) t.answers.serves.block t.answers.reply))
-    → IsLegalHistory new.backend.seat.seen → IsSession alone old (record new { left = src }) end
-one_ended end alone old now new src pending lies s t answers leaves writes legal =
-    let x = one_more s.served t.request (length now.backend.seat.seen) t.answers.serves.block t.answers.reply
+    (one_more s.served t.request (length now.hall.seat.seen) t.answers.serves.block t.answers.reply))
+    → IsLegalHistory new.hall.seat.seen → IsSession old (record new { left = src }) end
+one_ended end old now new src pending lies s t answers leaves writes legal =
+    let x = one_more s.served t.request (length now.hall.seat.seen) t.answers.serves.block t.answers.reply
     in
-    let d = done_more alone old.backend now.backend new.backend s.served t.request t.answers.reply s.done
+    let d = done_more old.hall now.hall new.hall s.served t.request t.answers.reply s.done
     t.answers.serves in
     let took = subst (λ (l : Option (List ℕ)). Takes now.left l (λ bytes. Spells bytes t.request)) lies
     t.taken
@@ -178,8 +177,7 @@ one_ended end alone old now new src pending lies s t answers leaves writes legal
       places = d.places;
       lone = d.lone;
       rest = d.rest;
-      records = d.records;
-      nexts = d.nexts;
+      goes_on = d.goes_on;
       of_store = d.of_store;
       input = told_pending pending (HasTaken s.served (λ bytes is. Spells bytes t.request))
           (λ was is. ReadsRequests end was is x) old.left src
@@ -239,32 +237,32 @@ fault_writes served request before block r a b c =
     ))
 
 -- a step that ends the session; `src` is what the source has left
-pub step_ends : (end : End) (alone : Bool) (old now new : SessionState) (src : Option (List ℕ))
-    (pending : List ℕ) → new.left ≡ left_to_read pending src → Sofar alone old now
-    → Steps alone now new pending (Some end) → IsLegalHistory new.backend.seat.seen
-    → IsSession alone old (record new { left = src }) end
-step_ends ends.Quit alone old now new src pending lies s t legal =
-    one_ended ends.Quit alone old now new src pending lies s t
-    (λ given bytes. quit_answers s.served t.request (length now.backend.seat.seen) t.answers.serves.block
+pub step_ends : (end : End) (old now new : SessionState) (src : Option (List ℕ))
+    (pending : List ℕ) → new.left ≡ left_to_read pending src → Sofar old now
+    → Steps now new pending (Some end) → IsLegalHistory new.hall.seat.seen
+    → IsSession old (record new { left = src }) end
+step_ends ends.Quit old now new src pending lies s t legal =
+    one_ended ends.Quit old now new src pending lies s t
+    (λ given bytes. quit_answers s.served t.request (length now.hall.seat.seen) t.answers.serves.block
     t.answers.reply given bytes pending t.answers.ends)
     (λ is. tt)
-    (written_more s.served t.request (length now.backend.seat.seen) t.answers.serves.block t.answers.reply
+    (written_more s.served t.request (length now.hall.seat.seen) t.answers.serves.block t.answers.reply
     old.held
     now.held new.held s.output t.answers.written) legal
-step_ends ends.WriteFault alone old now new src pending lies s t legal =
-    one_ended ends.WriteFault alone old now new src pending lies s t
-    (λ given bytes. fault_answers s.served t.request (length now.backend.seat.seen) t.answers.serves.block
+step_ends ends.WriteFault old now new src pending lies s t legal =
+    one_ended ends.WriteFault old now new src pending lies s t
+    (λ given bytes. fault_answers s.served t.request (length now.hall.seat.seen) t.answers.serves.block
     t.answers.reply given bytes pending)
     (λ is. tt)
-    (fault_writes s.served t.request (length now.backend.seat.seen) t.answers.serves.block t.answers.reply
+    (fault_writes s.served t.request (length now.hall.seat.seen) t.answers.serves.block t.answers.reply
     old.held
     now.held new.held s.output t.answers.written) legal
-step_ends ends.Eof alone old now new src pending lies s t legal =
-    ended ends.Eof (λ bytes is. (bytes ≡ []) × (is ≡ [])) alone old now new src pending lies s t.0 t.1
+step_ends ends.Eof old now new src pending lies s t legal =
+    ended ends.Eof (λ bytes is. (bytes ≡ []) × (is ≡ [])) old now new src pending lies s t.0 t.1
     (eof_answers s.served) (λ bytes is q. q.1) (λ was is w. w) legal
-step_ends ends.Cut alone old now new src pending lies s t legal =
-    ended ends.Cut (λ bytes is. (bytes ≢ []) × (is ≡ [])) alone old now new src pending lies s t.0 t.1
+step_ends ends.Cut old now new src pending lies s t legal =
+    ended ends.Cut (λ bytes is. (bytes ≢ []) × (is ≡ [])) old now new src pending lies s t.0 t.1
     (cut_answers s.served) (λ bytes is q. q.1) (λ was is w. w) legal
-step_ends ends.ReadFault alone old now new src pending lies s t legal =
-    ended ends.ReadFault (λ bytes is. Unit {0}) alone old now new src pending lies s t.0 t.1
+step_ends ends.ReadFault old now new src pending lies s t legal =
+    ended ends.ReadFault (λ bytes is. Unit {0}) old now new src pending lies s t.0 t.1
     (failed_answers s.served) (λ bytes is q. tt) (λ was is w. w) legal

@@ -1,6 +1,7 @@
 pub mod Asking
 pub mod Causes
 pub mod Ending
+pub mod GoingOn
 pub mod Grow
 pub mod Later
 pub mod Legal

@@ -14,7 +14,8 @@ use Rattle.hall_history.specs.History.{Entry, Published, Sealed, Dropped, FitsTr
 use Rattle.hall_history.specs.History.{published_tree}
 use Rattle.node_key.specs.declared.stake.Stake.{Stake}
 use Rattle.hall_trait.specs.Pass.{pass_view, state_at, state_after, advanced, IsNext, IsFresh}
-use Rattle.hall_history.specs.Seat.{Seat, Begins, IsAtRest, Becomes, ExchangesStakes}
+use Rattle.hall_history.specs.Seat.{Begins, IsAtRest, Becomes, ExchangesStakes, MakesEntry}
+use Rattle.hall_trait.specs.View.{HallView}
 use Rattle.hall_history.specs.declared.seat.PassView.{PassView}
 use Rattle.hall_trait.specs.declared.pass.LoadPass.{LoadPass}
 use Rattle.std.specs.List.{filter_map, cons_option}
@@ -68,25 +69,27 @@ published_from-push id track (x ∷ xs) s =
     ++ Published id t (published_tree s) ∷ []) next)
 
 -- the first tracks, those of `done`, are published, and the seat has the one pass
-pub record Loading (alone : Bool) (old now : Seat) (id : ℕ) (tracks finished : List TrackStream)
-    (pass : LoadPass) : Type 0 where
+pub record Loading (old now : HallView) (id : ℕ) (tracks finished : List TrackStream) (pass : LoadPass)
+    : Type 0 where
   pub block : List ℕ
-  pub grows : Grows alone old now block (published_from id 0 finished)
-  pub passes : now.passes ≡ pass_view pass ∷ []
-  pub pins : now.pins ≡ []
+  pub alone : now.alone ≡ old.alone
+  pub grows : Grows old.alone old.seat now.seat block (published_from id 0 finished)
+  pub passes : now.seat.passes ≡ pass_view pass ∷ []
+  pub pins : now.seat.pins ≡ []
   pub same : pass.id ≡ id
   pub from : pass.from ≡ 0
   pub to : pass.to ≡ length tracks
   pub state : pass.state ≡ state_at (length finished) (length tracks)
-  pub tracks_of : AreTracksOf now.seen id tracks
+  pub tracks_of : AreTracksOf now.seat.seen id tracks
 
 -- none is published yet
-pub Loading-start : (alone : Bool) (old : Seat) (pass : LoadPass) (tracks : List TrackStream)
-    → old.passes ≡ pass_view pass ∷ [] → old.pins ≡ [] → IsFresh pass (length tracks)
-    → AreTracksOf old.seen pass.id tracks → Loading alone old old pass.id tracks [] pass
-Loading-start alone old pass tracks passes pins fresh of = record {
+pub Loading-start : (old : HallView) (pass : LoadPass) (tracks : List TrackStream)
+    → old.seat.passes ≡ pass_view pass ∷ [] → old.seat.pins ≡ [] → IsFresh pass (length tracks)
+    → AreTracksOf old.seat.seen pass.id tracks → Loading old old pass.id tracks [] pass
+Loading-start old pass tracks passes pins fresh of = record {
   block = [];
-  grows = grows_none alone old;
+  alone = refl;
+  grows = grows_none old.alone old.seat;
   passes = passes;
   pins = pins;
   same = refl;
@@ -97,10 +100,10 @@ Loading-start alone old pass tracks passes pins fresh of = record {
 }
 
 -- the next of the tracks, which may be published
-pub Loading-next : (alone : Bool) (old now : Seat) (id : ℕ) (tracks finished rest : List TrackStream)
-    (s : TrackStream) (pass : LoadPass) → Loading alone old now id tracks finished pass → finished ++ s
-    ∷ rest ≡ tracks → IsNext pass (length finished) × FitsTrack now.seen pass.id (length finished) s
-Loading-next alone old now id tracks finished rest s pass l whole =
+pub Loading-next : (old now : HallView) (id : ℕ) (tracks finished rest : List TrackStream) (s : TrackStream)
+    (pass : LoadPass) → Loading old now id tracks finished pass → finished ++ s ∷ rest ≡ tracks
+    → IsNext pass (length finished) × FitsTrack now.seat.seen pass.id (length finished) s
+Loading-next old now id tracks finished rest s pass l whole =
     let count : length finished < length tracks =
     omega (arith, ap length whole, length-append finished (s ∷ rest)) in
     let differ : eqb (length finished) (length tracks) ≡ false = grind (arith, nat_tests) in
@@ -109,7 +112,7 @@ Loading-next alone old now id tracks finished rest s pass l whole =
     subst (λ (xs : List TrackStream). slice_get xs (length finished) ≡ Some s) whole
     (slice_get-seam finished rest s) in
     let of = l.tracks_of in
-    let known : info_of now.seen pass.id ≡ Some of.info = rw l.same of.opened in
+    let known : info_of now.seat.seen pass.id ≡ Some of.info = rw l.same of.opened in
     let within : length finished < length of.info.names.tracks = omega (arith, of.count) in
     (l.state ∙ straight, (of.info, known, within, of.fit (length finished) s at))
   where
@@ -119,19 +122,19 @@ Loading-next alone old now id tracks finished rest s pass l whole =
     slice_get-seam (y ∷ xs) ys x = slice_get-seam xs ys x
 
 -- it was published
-pub Loading-more : (alone : Bool) (old now new : Seat) (id : ℕ) (tracks finished : List TrackStream)
-    (s : TrackStream) (was pass : LoadPass) (place : ℕ) → Loading alone old now id tracks finished was
-    → IsNext was (length finished)
-    → MakesLoadEntry alone now new was (Published was.id (length finished) (published_tree s)) place
-    → pass ≡ advanced was
-    → Loading alone old new id tracks (finished ++ s ∷ []) pass
-Loading-more alone old now new id tracks finished s was pass place l next k same =
-    let e = k.entered in
+pub Loading-more : (old now new : HallView) (id : ℕ) (tracks finished : List TrackStream) (s : TrackStream)
+    (was pass : LoadPass) (place : ℕ) → Loading old now id tracks finished was → IsNext was (length finished)
+    → MakesLoadEntry now.alone now.seat new.seat was (Published was.id (length finished) (published_tree s))
+    place
+    → new.alone ≡ now.alone → pass ≡ advanced was → Loading old new id tracks (finished ++ s ∷ []) pass
+Loading-more old now new id tracks finished s was pass place l next k alone same =
+    let e = subst (λ (a : Bool). MakesEntry a now.seat new.seat
+    (Published was.id (length finished) (published_tree s)) place) l.alone k.entered in
     let count : length (finished ++ s ∷ []) ≡ length finished
     + 1 = omega (arith, length-append finished (s ∷ [])) in
-    let begins : Begins now.seen new.seen = Begins-trans now.seen e.before new.seen e.grown
+    let begins : Begins now.seat.seen new.seat.seen = Begins-trans now.seat.seen e.before new.seat.seen e.grown
     (Published was.id (length finished) (published_tree s) ∷ [], e.seen) in
-    let more = Grows-more alone old now new l.block (published_from id 0 finished)
+    let more = Grows-more old.alone old.seat now.seat new.seat l.block (published_from id 0 finished)
     (Published was.id (length finished) (published_tree s)) place l.grows e in
     let own : published_from id 0 finished ++ Published was.id (length finished) (published_tree s)
     ∷ [] ≡ published_from id 0 (finished ++ s ∷ []) =
@@ -142,9 +145,11 @@ Loading-more alone old now new id tracks finished s was pass place l next k same
     ∷ []) (zero-add (length finished))) in
     record {
       block = l.block ++ place ∷ [];
-      grows = subst (λ (es : List Entry). Grows alone old new (l.block ++ place ∷ []) es) own more;
-      passes = Becomes-one (pass_view was) new.passes (pass_view (advanced was) ∷ [])
-          (subst (λ (ps : List PassView). Becomes ps new.passes (pass_view was) (pass_view (advanced was)
+      alone = alone ∙ l.alone;
+      grows = subst (λ (es : List Entry). Grows old.alone old.seat new.seat (l.block ++ place ∷ []) es) own
+          more;
+      passes = Becomes-one (pass_view was) new.seat.passes (pass_view (advanced was) ∷ [])
+          (subst (λ (ps : List PassView). Becomes ps new.seat.passes (pass_view was) (pass_view (advanced was)
           ∷ []))
           l.passes k.passes) ∙ ap (λ (p : LoadPass). pass_view p ∷ []) (sym same);
       pins = k.pins ∙ l.pins;
@@ -154,33 +159,37 @@ Loading-more alone old now new id tracks finished s was pass place l next k same
       state = ap (λ (p : LoadPass). p.state) same ∙ ap (λ (st : PassState). state_after st was.to) next
           ∙ ap (λ (t : ℕ). state_at (length finished + 1) t) l.to
           ∙ ap (λ (n : ℕ). state_at n (length tracks)) (sym count);
-      tracks_of = AreTracksOf-more now.seen new.seen id tracks begins l.tracks_of;
+      tracks_of = AreTracksOf-more now.seat.seen new.seat.seen id tracks begins l.tracks_of;
     }
 
 -- the load ended with this entry, and nothing is left of the pass
-ended_load : (alone : Bool) (old now new : Seat) (id : ℕ) (tracks finished : List TrackStream)
-    (pass : LoadPass) (e : Entry) (place : ℕ) → (l : Loading alone old now id tracks finished pass)
-    → now.stakes ≡ [] → new.stakes ≡ now.stakes → left_after pass e ≡ []
-    → MakesLoadEntry alone now new pass e place → Grows alone old new (l.block ++ place ∷ [])
-    (published_from id 0 finished ++ e ∷ []) × IsAtRest new
-ended_load alone old now new id tracks finished pass e place l no_stakes same none m = (
-  Grows-more alone old now new l.block (published_from id 0 finished) e place l.grows m.entered,
+ended_load : (old now new : HallView) (id : ℕ) (tracks finished : List TrackStream) (pass : LoadPass)
+    (e : Entry) (place : ℕ) → (l : Loading old now id tracks finished pass) → now.seat.stakes ≡ []
+    → new.seat.stakes ≡ now.seat.stakes → left_after pass e ≡ []
+    → MakesLoadEntry now.alone now.seat new.seat pass e place
+    → Grows old.alone old.seat new.seat (l.block ++ place ∷ []) (published_from id 0 finished ++ e ∷ [])
+    × IsAtRest new.seat
+ended_load old now new id tracks finished pass e place l no_stakes same none m = (
+  Grows-more old.alone old.seat now.seat new.seat l.block (published_from id 0 finished) e place l.grows
+      (subst (λ (a : Bool). MakesEntry a now.seat new.seat e place) l.alone m.entered),
   record {
     no_stakes = same ∙ no_stakes;
     no_pins = m.pins ∙ l.pins;
-    no_passes = Becomes-one (pass_view pass) new.passes (left_after pass e)
-        (subst (λ (ps : List PassView). Becomes ps new.passes (pass_view pass) (left_after pass e)) l.passes
+    no_passes = Becomes-one (pass_view pass) new.seat.passes (left_after pass e)
+        (subst (λ (ps : List PassView). Becomes ps new.seat.passes (pass_view pass) (left_after pass e)) l.passes
         m.passes) ∙ none;
   },
 )
 
 -- a call that changed the stakes alone
-pub Loading-still : (alone : Bool) (old now new : Seat) (id : ℕ) (tracks finished : List TrackStream)
-    (pass : LoadPass) (taken given : List Stake) → ExchangesStakes now new taken given
-    → Loading alone old now id tracks finished pass → Loading alone old new id tracks finished pass
-Loading-still alone old now new id tracks finished pass taken given e l = record {
+pub Loading-still : (old now new : HallView) (id : ℕ) (tracks finished : List TrackStream) (pass : LoadPass)
+    (taken given : List Stake) → ExchangesStakes now.seat new.seat taken given → new.alone ≡ now.alone
+    → Loading old now id tracks finished pass → Loading old new id tracks finished pass
+Loading-still old now new id tracks finished pass taken given e alone l = record {
   block = l.block;
-  grows = Grows-still alone old now new l.block (published_from id 0 finished) l.grows e.entries;
+  alone = alone ∙ l.alone;
+  grows = Grows-still old.alone old.seat now.seat new.seat l.block (published_from id 0 finished) l.grows
+      e.entries;
   passes = e.passes ∙ l.passes;
   pins = e.pins ∙ l.pins;
   same = l.same;
@@ -191,12 +200,12 @@ Loading-still alone old now new id tracks finished pass taken given e l = record
 }
 
 -- it was given up behind the tracks that are published
-pub Loading-dropped : (alone : Bool) (old now new : Seat) (id : ℕ) (tracks finished rest : List TrackStream)
-    (pass : LoadPass) (place : ℕ) → Loading alone old now id tracks finished pass → now.stakes ≡ []
-    → new.stakes ≡ now.stakes → finished ++ rest ≡ tracks
-    → MakesLoadEntry alone now new pass (Dropped pass.id) place → GivesUp alone old new id tracks
-Loading-dropped alone old now new id tracks finished rest pass place l none same whole m =
-    let end = ended_load alone old now new id tracks finished pass (Dropped pass.id) place l none same refl m
+pub Loading-dropped : (old now new : HallView) (id : ℕ) (tracks finished rest : List TrackStream)
+    (pass : LoadPass) (place : ℕ) → Loading old now id tracks finished pass → now.seat.stakes ≡ []
+    → new.seat.stakes ≡ now.seat.stakes → finished ++ rest ≡ tracks
+    → MakesLoadEntry now.alone now.seat new.seat pass (Dropped pass.id) place → GivesUp old new id tracks
+Loading-dropped old now new id tracks finished rest pass place l none same whole m =
+    let end = ended_load old now new id tracks finished pass (Dropped pass.id) place l none same refl m
     in
     let front : take (length finished) tracks ≡ finished =
     ap (λ (ts : List TrackStream). take (length finished) ts) (sym whole) ∙ take-append_seam finished rest
@@ -208,17 +217,19 @@ Loading-dropped alone old now new id tracks finished rest pass place l none same
     record {
       count = length finished;
       block = l.block ++ place ∷ [];
-      grows = subst (λ (es : List Entry). Grows alone old new (l.block ++ place ∷ []) es) own end.0;
+      grows = subst (λ (es : List Entry). Grows old.alone old.seat new.seat (l.block ++ place ∷ []) es) own
+          end.0;
       rest = end.1;
     }
 
 -- it was sealed behind all of them
-pub Loading-sealed : (alone : Bool) (old now new : Seat) (id : ℕ) (tracks finished : List TrackStream)
-    (pass : LoadPass) (place : ℕ) → Loading alone old now id tracks finished pass → now.stakes ≡ []
-    → new.stakes ≡ now.stakes → finished ≡ tracks
-    → MakesLoadEntry alone now new pass (Sealed pass.id) place → PublishesAll alone old new id tracks place
-Loading-sealed alone old now new id tracks finished pass place l none same all m =
-    let end = ended_load alone old now new id tracks finished pass (Sealed pass.id) place l none same refl m
+pub Loading-sealed : (old now new : HallView) (id : ℕ) (tracks finished : List TrackStream) (pass : LoadPass)
+    (place : ℕ) → Loading old now id tracks finished pass → now.seat.stakes ≡ []
+    → new.seat.stakes ≡ now.seat.stakes → finished ≡ tracks
+    → MakesLoadEntry now.alone now.seat new.seat pass (Sealed pass.id) place
+    → PublishesAll old new id tracks place
+Loading-sealed old now new id tracks finished pass place l none same all m =
+    let end = ended_load old now new id tracks finished pass (Sealed pass.id) place l none same refl m
     in
     let own : published_from id 0 finished ++ Sealed pass.id ∷ [] ≡ published_from id 0 tracks ++ Sealed id
     ∷ [] =
@@ -226,6 +237,7 @@ Loading-sealed alone old now new id tracks finished pass place l none same all m
     (λ (ts : List TrackStream). published_from id 0 ts ++ Sealed id ∷ []) all in
     record {
       before = l.block;
-      grows = subst (λ (es : List Entry). Grows alone old new (l.block ++ place ∷ []) es) own end.0;
+      grows = subst (λ (es : List Entry). Grows old.alone old.seat new.seat (l.block ++ place ∷ []) es) own
+          end.0;
       rest = end.1;
     }

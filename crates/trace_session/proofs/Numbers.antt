@@ -4,7 +4,7 @@ use Rattle.std.proofs.Common.{refl}
 use Rattle.std.specs.List.{AllByRecursion}
 use Rattle.list_lemmas.proofs.Each.{all_mapped}
 use Rattle.shard_core.specs.Room.{Room}
-use Rattle.hall_trait.specs.Answers.{NextsRise}
+use Rattle.hall_trait.specs.View.{NextsRise}
 use Rattle.session_proto.specs.declared.reply.Reply.{Reply}
 use Rattle.trace_session.specs.Served.{Served, TellsOfStore, spent_number}
 use Rattle.builders.proofs.Spending.{store_later}

@@ -19,28 +19,28 @@ use Rattle.request_reader.specs.Incoming.{Spells, Takes, left_to_read}
 use Rattle.session_proto.specs.declared.request.Request.TheVariants.{Quit}
 use Rattle.request_reader.specs.Requests.{WholeRequest, Line, Requests, Ending}
 use Rattle.request_reader.specs.Requests.{requests_of, onto}
-use Rattle.hall_trait.specs.Answers.{NextsRise}
-use Rattle.trace_session.specs.Served.{Served, IsServed, TellsOfStore, blocks_of, output_of, spent_numbers, spent_number}
-use Rattle.builders.proofs.Spending.{nexts_same, nexts_then}
+use Rattle.hall_trait.specs.View.{HallView}
+use Rattle.trace_session.specs.Served.{Served, IsAnswered, IsServed, TellsOfStore, standing}
+use Rattle.trace_session.specs.Served.{blocks_of, output_of, spent_numbers, spent_number}
+use Rattle.trace_session.proofs.GoingOn.{serving_same, serving_then}
 use Rattle.trace_session.proofs.Numbers.{tells_later}
-use Rattle.trace_session.specs.Serving.{Serves}
+use Rattle.trace_session.specs.Serving.{GoesOnServing, Serves}
 use Rattle.trace_session.specs.Session.{ComeInOrder, requests_served}
-use Rattle.trace_session.specs.State.{Backend, SessionState}
+use Rattle.trace_session.specs.State.{SessionState}
 use Rattle.trace_session.specs.Step.{TakesOne}
 use Rattle.trace_session.proofs.Grow.{Begins-trans, AreAt-length}
 use Rattle.trace_session.proofs.Later.{all_later}
 use Rattle.trace_session.proofs.Rising.{ComeInOrder-push}
 
 -- what was served, apart from what was read and written
-pub record Done (alone : Bool) (old now : Backend) (served : List Served) : Type 0 where
-  pub each : AllByRecursion (IsServed alone now.seat.seen) served
+pub record Done (old now : HallView) (served : List Served) : Type 0 where
+  pub each : AllByRecursion (IsServed old.alone now.seat.seen) served
   pub seen : Begins old.seat.seen now.seat.seen
   pub order : ComeInOrder (length old.seat.seen) served (length now.seat.seen)
   pub places : now.seat.places ≡ old.seat.places ++ blocks_of served
-  pub lone : OnTrue alone (length now.seat.seen ≡ length old.seat.seen + length (blocks_of served))
+  pub lone : OnTrue old.alone (length now.seat.seen ≡ length old.seat.seen + length (blocks_of served))
   pub rest : IsAtRest now.seat
-  pub records : Told old.used_up now.used_up (λ was is. is ≡ was ++ spent_numbers served)
-  pub nexts : NextsRise old.rooms now.rooms
+  pub goes_on : GoesOnServing (spent_numbers served) old now
   pub of_store : AllByRecursion (λ (x : Served). TellsOfStore now.rooms x.block x.reply) served
 
 -- these requests in front of those of other bytes
@@ -59,9 +59,9 @@ abbrev pub HasWritten : List Served → List ℕ → List ℕ → Type 0
 HasWritten served was is = is ≡ was ++ output_of served
 
 -- these requests were served, and all of their replies written
-pub record Sofar (alone : Bool) (old now : SessionState) : Type 0 where
+pub record Sofar (old now : SessionState) : Type 0 where
   pub served : List Served
-  pub done : Done alone old.backend now.backend served
+  pub done : Done old.hall now.hall served
   pub input : Told old.left now.left (HasRead served)
   pub output : Told old.held now.held (HasWritten served)
 
@@ -82,11 +82,11 @@ numbers_more served request before block r =
     ((record { request = request; before = before; block = block; reply = r }) ∷ [])
     ∙ ap (λ (l : List ℕ). spent_numbers served ++ l) (one_number r (spent_number r) refl)
 
-pub done_more : (alone : Bool) (old now new : Backend) (served : List Served) (request : WholeRequest)
-    (r : Reply)
-    → Done alone old now served → (s : Serves alone now new request r)
-    → Done alone old new (one_more served request (length now.seat.seen) s.block r)
-done_more alone old now new served request r d s =
+pub done_more : (old now new : HallView) (served : List Served) (request : WholeRequest) (r : Reply)
+    → Done old now served → (s : Serves now new request r)
+    → Done old new (one_more served request (length now.seat.seen) s.block r)
+done_more old now new served request r d s =
+    let alone = old.alone in
     let before = length now.seat.seen in
     let x : Served = record { request = request; before = before; block = s.block; reply = r } in
     let blocks : blocks_of (served ++ x ∷ []) ≡ blocks_of served
@@ -96,8 +96,10 @@ done_more alone old now new served request r d s =
     (all_later alone now.seat.seen s.grows.seen.0 served d.each) in
     let came : before ≤ length new.seat.seen =
     omega (arith, ap length s.grows.seen.1, length-append now.seat.seen s.grows.seen.0) in
+    let answered = subst (λ (a : Bool). IsAnswered (standing a new.seat.seen before s.block) request r
+    s.entries) d.goes_on.alone s.answered in
     record {
-      each = all_push (IsServed alone new.seat.seen) served x later (s.entries, s.grows.at, came, s.answered);
+      each = all_push (IsServed alone new.seat.seen) served x later (s.entries, s.grows.at, came, answered);
       seen = Begins-trans old.seat.seen now.seat.seen new.seat.seen d.seen s.grows.seen;
       order = ComeInOrder-push (length old.seat.seen) before (length new.seat.seen) served x d.order refl
           s.grows.rises;
@@ -114,19 +116,16 @@ done_more alone old now new served request r d s =
             AreAt-length new.seat.seen s.block s.entries s.grows.at,
             ap length blocks,
             length-append (blocks_of served) s.block,
-          )) d.lone
-          s.grows.lone;
+          )) d.lone (subst (λ (a : Bool). OnTrue a (new.seat.seen ≡ now.seat.seen ++ s.entries))
+          d.goes_on.alone s.grows.lone);
       rest = s.rest;
-      records = told_then (λ was is. is ≡ was ++ spent_numbers served) (λ was is. is ≡ was
-          ++ option_to_list (spent_number r)) (λ was is. is ≡ was
-          ++ spent_numbers (one_more served request before s.block r)) old.used_up now.used_up new.used_up
-          (λ a b c p q. q ∙ ap (λ (l : List ℕ). l ++ option_to_list (spent_number r)) p ∙ append_assoc a
-          (spent_numbers served) (option_to_list (spent_number r)) ∙ ap (λ (l : List ℕ). a ++ l)
-          (sym (numbers_more served request before s.block r))) d.records s.records;
-      nexts = nexts_then old.rooms now.rooms new.rooms d.nexts s.nexts;
+      goes_on = subst (λ (ns : List ℕ). GoesOnServing ns old new)
+          (sym (numbers_more served request before s.block r))
+          (serving_then old now new (spent_numbers served) (option_to_list (spent_number r)) d.goes_on
+          s.goes_on);
       of_store = all_push (λ (x : Served). TellsOfStore new.rooms x.block x.reply) served
           (record { request = request; before = before; block = s.block; reply = r })
-          (tells_later now.rooms new.rooms served s.nexts d.of_store) s.of_store;
+          (tells_later now.rooms new.rooms served s.goes_on.rooms d.of_store) s.of_store;
     }
 
 -- the texts of one reply more
@@ -184,15 +183,13 @@ read_more served request before block r a b c no_quit =
     ))
 
 -- the session goes on
-pub sofar_more : (alone : Bool) (old now new : SessionState) → Sofar alone old now
-    → TakesOne alone now new None
-    → Sofar alone old new
-sofar_more alone old now new s t =
-    let before = length now.backend.seat.seen in
+pub sofar_more : (old now new : SessionState) → Sofar old now → TakesOne now new None → Sofar old new
+sofar_more old now new s t =
+    let before = length now.hall.seat.seen in
     let block = t.answers.serves.block in
     record {
       served = one_more s.served t.request before block t.answers.reply;
-      done = done_more alone old.backend now.backend new.backend s.served t.request t.answers.reply s.done
+      done = done_more old.hall now.hall new.hall s.served t.request t.answers.reply s.done
           t.answers.serves;
       input = read_more s.served t.request before block t.answers.reply old.left now.left new.left
           t.answers.ends s.input t.taken;
@@ -202,20 +199,18 @@ sofar_more alone old now new s t =
     }
 
 -- a session that begins
-pub sofar_none : (alone : Bool) (s : SessionState) → IsAtRest s.backend.seat
-    → Sofar alone s (record s { left = left_to_read [] s.left })
-sofar_none alone s rest = record {
+pub sofar_none : (s : SessionState) → IsAtRest s.hall.seat
+    → Sofar s (record s { left = left_to_read [] s.left })
+sofar_none s rest = record {
   served = [];
   done = record {
     each = tt;
-    seen = ([], sym (append-nil s.backend.seat.seen));
+    seen = ([], sym (append-nil s.hall.seat.seen));
     order = refl;
-    places = sym (append-nil s.backend.seat.places);
-    lone = OnTrue-all alone (omega arith);
+    places = sym (append-nil s.hall.seat.places);
+    lone = OnTrue-all s.hall.alone (omega arith);
     rest = rest;
-    records = told_same (λ was is. is ≡ was ++ []) s.backend.used_up s.backend.used_up
-        (λ x. sym (append-nil x)) refl;
-    nexts = nexts_same s.backend.rooms;
+    goes_on = serving_same s.hall;
     of_store = tt;
   };
   input = told_same (HasRead []) s.left (left_to_read [] s.left) (λ x. ([], refl, λ more. refl))

@@ -1,5 +1,5 @@
 -- One step of a session.
-use Rattle.std.proofs.Common.{◌≡◌, ◌≢◌, ℕ, Bool, List, [], ◌++◌, Option, None, Some, Ok, Err, refl, sym}
+use Rattle.std.proofs.Common.{◌≡◌, ◌≢◌, ℕ, List, [], ◌++◌, Option, None, Some, Ok, Err, refl, sym}
 use Rattle.std.proofs.Common.{◌∙◌, ap, subst, inl, inr}
 use Rattle.trace_base.specs.Outside.{Told}
 use Rattle.trace_base.proofs.Telling.{told_as}
@@ -24,20 +24,20 @@ use Rattle.trace_session.specs.declared.sessions.End.TheVariants as ends
 use Rattle.trace_session.proofs.Telling.{Serves-untold}
 
 -- the reply that is told was served, and its text written
-answered_one : (alone : Bool) (old new : SessionState) (request : WholeRequest) (result : Option End)
+answered_one : (old new : SessionState) (request : WholeRequest) (result : Option End)
     (r : Reply)
-    (bytes : List ℕ) → Serves alone old.backend new.backend request r → IsTold r bytes
+    (bytes : List ℕ) → Serves old.hall new.hall request r → IsTold r bytes
     → Told old.held new.held (λ was now. WritesText result bytes was now) → EndsBehind request result
-    → AnswersOne alone old new request result
-answered_one alone old new request result r bytes s (inl text) w e = record {
+    → AnswersOne old new request result
+answered_one old new request result r bytes s (inl text) w e = record {
   reply = r;
   serves = s;
   written = subst (λ (b : List ℕ). Told old.held new.held (λ was now. WritesText result b was now)) text w;
   ends = e;
 }
-answered_one alone old new request result r bytes s (inr untold) w e = record {
+answered_one old new request result r bytes s (inr untold) w e = record {
   reply = reply.No no.Memory;
-  serves = Serves-untold alone old.backend new.backend request r untold.0 s;
+  serves = Serves-untold old.hall new.hall request r untold.0 s;
   written = subst (λ (b : List ℕ). Told old.held new.held (λ was now. WritesText result b was now)) untold.1
       w;
   ends = e;
@@ -82,23 +82,23 @@ all_text i (Some ends.Quit) bytes was now e w = w
 all_text i (Some end) bytes was now e w = absurd e
 
 -- a request was served, and all of its reply written
-pub answered_all : (alone : Bool) (old new : SessionState) (i : Incoming) (text : List ℕ)
+pub answered_all : (old new : SessionState) (i : Incoming) (text : List ℕ)
     (request : WholeRequest)
     (result : Option End) (r : Reply) (bytes : List ℕ) → Is i text request → EndsWith i result
-    → Serves alone old.backend new.backend request r → IsTold r bytes
-    → Told old.held new.held (λ was now. now ≡ was ++ bytes) → AnswersOne alone old new request result
-answered_all alone old new i text request result r bytes is e s told w =
-    answered_one alone old new request result r bytes s told
+    → Serves old.hall new.hall request r → IsTold r bytes
+    → Told old.held new.held (λ was now. now ≡ was ++ bytes) → AnswersOne old new request result
+answered_all old new i text request result r bytes is e s told w =
+    answered_one old new request result r bytes s told
     (told_as (λ was now. now ≡ was ++ bytes) (λ was now. WritesText result bytes was now) old.held new.held
     (λ was now. all_text i result bytes was now e) w)
     (ends_behind i text request result is e)
 
 -- and the sink failed
-pub answered_front : (alone : Bool) (old new : SessionState) (request : WholeRequest) (r : Reply)
-    (bytes : List ℕ) → Serves alone old.backend new.backend request r → IsTold r bytes
-    → Told old.held new.held (WritesFront bytes) → AnswersOne alone old new request (Some ends.WriteFault)
-answered_front alone old new request r bytes s told w =
-    answered_one alone old new request (Some ends.WriteFault) r bytes s told w tt
+pub answered_front : (old new : SessionState) (request : WholeRequest) (r : Reply)
+    (bytes : List ℕ) → Serves old.hall new.hall request r → IsTold r bytes
+    → Told old.held new.held (WritesFront bytes) → AnswersOne old new request (Some ends.WriteFault)
+answered_front old new request r bytes s told w =
+    answered_one old new request (Some ends.WriteFault) r bytes s told w tt
 
 -- the request that came; of a load whose text was dropped it is known where the source tells
 pub came : (i : Incoming) (text : List ℕ) (left left' : Option (List ℕ)) → Comes left left' text (Ok i)
@@ -112,26 +112,26 @@ came incoming.Dropped text None None t = (Load [], ([], refl), tt)
 came incoming.Large text None None t = (Large, refl, tt)
 came incoming.Unreadable text None None t = (Unreadable, refl, tt)
 
-steps_by : (alone : Bool) (old new : SessionState) (pending : List ℕ) (request : WholeRequest)
+steps_by : (old new : SessionState) (pending : List ℕ) (request : WholeRequest)
     (result : Option End) → Takes old.left new.left (λ bytes. Spells bytes request)
-    → AnswersOne alone old new request result → EndsBehind request result → Steps alone old new pending result
-steps_by alone old new pending request None taken answers e =
+    → AnswersOne old new request result → EndsBehind request result → Steps old new pending result
+steps_by old new pending request None taken answers e =
     record { request = request; taken = taken; answers = answers }
-steps_by alone old new pending request (Some ends.Quit) taken answers e =
+steps_by old new pending request (Some ends.Quit) taken answers e =
     record { request = request; taken = taken; answers = answers }
-steps_by alone old new pending request (Some ends.WriteFault) taken answers e =
+steps_by old new pending request (Some ends.WriteFault) taken answers e =
     record { request = request; taken = taken; answers = answers }
-steps_by alone old new pending request (Some end) taken answers e = absurd e
+steps_by old new pending request (Some end) taken answers e = absurd e
 
 -- what came was answered
-pub stepped : (alone : Bool) (old new : SessionState) (pending text : List ℕ) (i : Incoming)
+pub stepped : (old new : SessionState) (pending text : List ℕ) (i : Incoming)
     (result : Option End) → Comes old.left new.left text (Ok i)
-    → ((request : WholeRequest) → Is i text request → AnswersOne alone old new request result)
-    → Steps alone old new pending result
-stepped alone old new pending text i result comes answers =
+    → ((request : WholeRequest) → Is i text request → AnswersOne old new request result)
+    → Steps old new pending result
+stepped old new pending text i result comes answers =
     let c = came i text old.left new.left comes in
     let a = answers c.0 c.1 in
-    steps_by alone old new pending c.0 result c.2 a a.ends
+    steps_by old new pending c.0 result c.2 a a.ends
 
 -- the source ended between two requests, or inside one, or failed
 eof_none : (left left' : Option (List ℕ)) → Told left left' (λ was now. (was ≡ []) × (now ≡ []))
@@ -161,12 +161,12 @@ fault_none left left' t = told_as (λ was now. (bytes : List ℕ) × (was ≡ by
     × (first_request bytes ≡ None) × Unit {0}) left left' (λ x y p. (p.0, p.1, p.2, tt)) t
 
 -- nothing came
-pub ended_early : (alone : Bool) (old new : SessionState) (pending text : List ℕ) (end : InputEnd)
-    → Comes old.left new.left text (Err end) → pending ≡ [] → new.backend ≡ old.backend → new.held ≡ old.held
-    → Steps alone old new pending (Some (end_at end))
-ended_early alone old new pending text inputs.End comes none backend held =
-    (record { backend = backend; held = held; taken = eof_none old.left new.left comes }, none)
-ended_early alone old new pending text inputs.Cut comes none backend held =
-    (record { backend = backend; held = held; taken = cut_none old.left new.left comes.0 comes.1 }, none)
-ended_early alone old new pending text inputs.Failed comes none backend held =
-    (record { backend = backend; held = held; taken = fault_none old.left new.left comes }, none)
+pub ended_early : (old new : SessionState) (pending text : List ℕ) (end : InputEnd)
+    → Comes old.left new.left text (Err end) → pending ≡ [] → new.hall ≡ old.hall → new.held ≡ old.held
+    → Steps old new pending (Some (end_at end))
+ended_early old new pending text inputs.End comes none hall held =
+    (record { hall = hall; held = held; taken = eof_none old.left new.left comes }, none)
+ended_early old new pending text inputs.Cut comes none hall held =
+    (record { hall = hall; held = held; taken = cut_none old.left new.left comes.0 comes.1 }, none)
+ended_early old new pending text inputs.Failed comes none hall held =
+    (record { hall = hall; held = held; taken = fault_none old.left new.left comes }, none)

@@ -1,8 +1,8 @@
 -- What objects of the outside tell, from one state to the next; and which reply is told.
-use Rattle.std.proofs.Common.{length, ◌≡◌, ℕ, Bool, false, List, ◌++◌, Option, None}
+use Rattle.std.proofs.Common.{length, ◌≡◌, ℕ, false, List, Option, None}
 use Rattle.std.proofs.Common.{option_to_list, refl, subst, inl, inr}
-use Rattle.trace_base.specs.Outside.{Told}
 use Rattle.hall_history.specs.History.{Entry}
+use Rattle.hall_trait.specs.View.{HallView}
 use Rattle.session_proto.specs.Reply.{is_short, is_short_refusal}
 use Rattle.session_proto.specs.declared.reply.NamedRow.{NamedRow}
 use Rattle.session_proto.specs.declared.reply.No.{No}
@@ -13,8 +13,7 @@ use Rattle.session_proto.specs.declared.request.Request.TheVariants as line
 use Rattle.session_proto.specs.declared.request.Sel.TheVariants.{All}
 use Rattle.request_reader.specs.Requests.{WholeRequest, Line, Load}
 use Rattle.trace_session.specs.Served.{Standing, standing, IsAnswered, spent_number}
-use Rattle.trace_session.specs.Serving.{Serves}
-use Rattle.trace_session.specs.State.{Backend}
+use Rattle.trace_session.specs.Serving.{GoesOnServing, Serves}
 
 -- a profile that was answered may be told as want of memory
 flat_untold : (s : Standing) (request : WholeRequest) (over : ℕ) (bare : ℕ) (rows : List NamedRow) (place : ℕ)
@@ -54,17 +53,15 @@ long_number reply.Quit long = absurd (cc)
 long_number (reply.No n) long = long_refusal n long
 
 -- a profile is told as want of memory
-pub Serves-untold : (alone : Bool) (old new : Backend) (request : WholeRequest) (r : Reply)
-    → is_short r ≡ false → Serves alone old new request r → Serves alone old new request (reply.No no.Memory)
-Serves-untold alone old new request r long s = record {
+pub Serves-untold : (old new : HallView) (request : WholeRequest) (r : Reply)
+    → is_short r ≡ false → Serves old new request r → Serves old new request (reply.No no.Memory)
+Serves-untold old new request r long s = record {
   block = s.block;
   entries = s.entries;
   grows = s.grows;
-  answered = untold (standing alone new.seat.seen (length old.seat.seen) s.block) request r s.entries long
+  answered = untold (standing old.alone new.seat.seen (length old.seat.seen) s.block) request r s.entries long
       s.answered;
   rest = s.rest;
-  records = subst (λ (o : Option ℕ). Told old.used_up new.used_up (λ was now. now ≡ was ++ option_to_list o))
-      (long_number r long) s.records;
-  nexts = s.nexts;
+  goes_on = subst (λ (o : Option ℕ). GoesOnServing (option_to_list o) old new) (long_number r long) s.goes_on;
   of_store = λ p made is. absurd (cc);
 }

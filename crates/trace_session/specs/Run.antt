@@ -1,21 +1,15 @@
 -- What a run of the program does.
-use Rattle.std.specs.Prelude.{◌≡◌, ◌⊎◌, ℕ, true, List, [], ◌∷◌, ◌++◌, codes, Option, None, Some}
+use Rattle.std.specs.Prelude.{◌≡◌, ◌⊎◌, ℕ, List, ◌∷◌, ◌++◌, [], codes, Option}
 use Rattle.trace_base.specs.Outside.{Rose, Told}
 use Rattle.hall_history.specs.Left.{left_of}
-use Rattle.hall_history.specs.Seat.{Seat}
 use Rattle.hall_history.specs.declared.left.Left.{Left}
 use Rattle.session_proto.specs.Reply.{spaced}
-use Rattle.shard_core.specs.Room.{Room}
-use Rattle.store_laws.specs.Store.{empty_store}
+use Rattle.hall_trait.specs.View.{HallView}
+use Rattle.plain_hall.specs.PlainHall.{view_at_first}
 use Rattle.trace_session.specs.Output.{WritesFront}
 use Rattle.trace_session.specs.Session.{IsSession}
-use Rattle.trace_session.specs.State.{Backend}
 use Rattle.trace_session.specs.declared.sessions.End.{End}
 use Rattle.trace_session.specs.declared.sessions.End.TheVariants as ends
-
--- the seat of a new hall
-abbrev pub new_seat : Seat
-new_seat = record { stakes = []; pins = []; passes = []; seen = []; places = [] }
 
 -- the line that tells the words
 abbrev pub usage_text : List ℕ
@@ -59,19 +53,11 @@ TellsLeft end left sink sink' status =
     ⊎ (Told sink.held sink'.held (WritesFront (left_text left)) × Rose sink.faults sink'.faults
     × (status ≡ 3))
 
--- what a new hall serves from, whose store has no nodes and gives its first numbers next
-abbrev pub new_backend : Backend
-new_backend = record { seat = new_seat; used_up = None; rooms = Some (empty_store 0) }
-
--- One session over a new hall that no one else acts in; then what is left of its loads is told. `rooms` are
--- those of the hall's store at the end, and `middle` is what the sink tells behind the session.
+-- One session over a new hall that no one else acts in; then what is left of its loads is told. `ended` is
+-- what the hall tells at the end, and `middle` what the sink tells behind the session.
 abbrev pub RunsBatch : SourceState → SourceState → SinkState → SinkState → ℕ → Type 0
 RunsBatch source source' sink sink' status =
-    (end : End) × (seat : Seat) × (rooms : List Room) × (middle : SinkState)
-    × IsSession true (record { backend = new_backend; left = source.left; held = sink.held })
-    (record {
-      backend = record { seat = seat; used_up = None; rooms = Some rooms };
-      left = source'.left;
-      held = middle.held;
-    }) end
-    × EndsByCause end source source' sink middle × TellsLeft end (left_of seat.seen) middle sink' status
+    (end : End) × (ended : HallView) × (middle : SinkState)
+    × IsSession (record { hall = view_at_first 0; left = source.left; held = sink.held })
+    (record { hall = ended; left = source'.left; held = middle.held }) end
+    × EndsByCause end source source' sink middle × TellsLeft end (left_of ended.seat.seen) middle sink' status

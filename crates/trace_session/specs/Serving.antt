@@ -1,14 +1,13 @@
 -- How serving a request changes what it is served from.
-use Rattle.std.specs.Prelude.{◌≡◌, ℕ, Bool, List, ◌++◌, length, Option, option_to_list}
+use Rattle.std.specs.Prelude.{◌≡◌, ℕ, Bool, List, ◌++◌, length, option_to_list}
 use Rattle.std.specs.Bool.{OnTrue}
-use Rattle.trace_base.specs.Outside.{Told}
+use Rattle.std.specs.Option.{option_map}
 use Rattle.hall_history.specs.History.{Entry}
 use Rattle.hall_history.specs.Seat.{Seat, Begins, IsAtRest}
 use Rattle.session_proto.specs.declared.reply.Reply.{Reply}
 use Rattle.request_reader.specs.Requests.{WholeRequest}
-use Rattle.hall_trait.specs.Answers.{NextsRise}
+use Rattle.hall_trait.specs.View.{Account, GoesOn, HallView, with_account}
 use Rattle.trace_session.specs.Served.{AreAt, Rise, IsAnswered, TellsOfStore, standing, spent_number}
-use Rattle.trace_session.specs.State.{Backend}
 
 -- The seat made these entries, at the places of the block, which rise behind what it had seen, and no others.
 -- A seat that is alone saw no others either.
@@ -19,17 +18,25 @@ pub record Grows (alone : Bool) (old new : Seat) (block : List ℕ) (entries : L
   pub seen : Begins old.seen new.seen
   pub lone : OnTrue alone (new.seen ≡ old.seen ++ entries)
 
--- the numbers that the hall told as used up are those that the reply tells
-abbrev pub RecordsReply : Option (List ℕ) → Option (List ℕ) → Reply → Type 0
-RecordsReply old new reply = Told old new (λ was now. now ≡ was ++ option_to_list (spent_number reply))
+-- so many more numbers were told as used up
+abbrev pub with_numbers : List ℕ → Account → Account
+with_numbers ns a = record a { used_up = option_map (λ (was : List ℕ). was ++ ns) a.used_up }
 
--- The request was served with this reply, and the seat is at rest again.
-pub record Serves (alone : Bool) (old new : Backend) (request : WholeRequest) (reply : Reply) : Type 0 where
+-- All that the hall tells beside the seat goes on. These numbers were told as used up; work was done, and
+-- nodes were read, or none.
+abbrev pub GoesOnServing : List ℕ → HallView → HallView → Type 0
+GoesOnServing ns from to =
+    GoesOn (with_account (λ a. record (with_numbers ns a) { work = to.account.work; reads = to.account.reads })
+    from) to
+
+-- The request was served with this reply, and the seat is at rest again. The numbers that the hall told as
+-- used up are those that the reply tells.
+pub record Serves (old new : HallView) (request : WholeRequest) (reply : Reply) : Type 0 where
   pub block : List ℕ
   pub entries : List Entry
-  pub grows : Grows alone old.seat new.seat block entries
-  pub answered : IsAnswered (standing alone new.seat.seen (length old.seat.seen) block) request reply entries
+  pub grows : Grows old.alone old.seat new.seat block entries
+  pub answered : IsAnswered (standing old.alone new.seat.seen (length old.seat.seen) block) request reply
+      entries
   pub rest : IsAtRest new.seat
-  pub records : RecordsReply old.used_up new.used_up reply
-  pub nexts : NextsRise old.rooms new.rooms
+  pub goes_on : GoesOnServing (option_to_list (spent_number reply)) old new
   pub of_store : TellsOfStore new.rooms block reply

@@ -1,5 +1,5 @@
 -- What a session did: the requests that it served, and what it wrote, read and left.
-use Rattle.std.specs.Prelude.{◌≡◌, ◌≢◌, ℕ, ◌+◌, Bool, List, [], ◌∷◌, ◌++◌, length, map}
+use Rattle.std.specs.Prelude.{◌≡◌, ◌≢◌, ℕ, ◌+◌, List, [], ◌∷◌, ◌++◌, length, map}
 use Rattle.std.specs.Bool.{OnTrue}
 use Rattle.std.specs.List.{AllByRecursion}
 use Rattle.trace_base.specs.Outside.{Told}
@@ -9,9 +9,9 @@ use Rattle.session_proto.specs.Reply.{reply_text}
 use Rattle.request_reader.specs.Requests.{WholeRequest, Requests, AfterQuit, Between, Inside}
 use Rattle.request_reader.specs.Requests.{requests_of}
 use Rattle.trace_session.specs.Output.{WritesFront}
-use Rattle.hall_trait.specs.Answers.{NextsRise}
 use Rattle.trace_session.specs.Served.{Served, IsServed, Rise, TellsOfStore, blocks_of, output_of}
 use Rattle.trace_session.specs.Served.{spent_numbers}
+use Rattle.trace_session.specs.Serving.{GoesOnServing}
 use Rattle.trace_session.specs.State.{SessionState}
 use Rattle.trace_session.specs.declared.sessions.End.{End}
 use Rattle.trace_session.specs.declared.sessions.End.TheVariants as ends
@@ -58,20 +58,19 @@ ComeInOrder n (x ∷ served) m = (x.before ≡ n) × (after : ℕ) × Rise n x.b
 
 -- A session, from old to new. Each request was served in the history that the seat has seen at its end, which
 -- is legal. The seat's new places are the blocks in order and nothing else, and a seat that is alone saw no
--- entries but those. It is left at rest. Where the hall tells its rooms, these say which numbers of the store
--- are used up.
-pub record IsSession (alone : Bool) (old new : SessionState) (end : End) : Type 0 where
+-- entries but those. It is left at rest. The numbers that the hall told as used up are those that the replies
+-- tell, in order. Where the hall tells its rooms, these say which numbers of the store are used up.
+pub record IsSession (old new : SessionState) (end : End) : Type 0 where
   pub served : List Served
-  pub each : AllByRecursion (IsServed alone new.backend.seat.seen) served
-  pub seen : Begins old.backend.seat.seen new.backend.seat.seen
-  pub legal : IsLegalHistory new.backend.seat.seen
-  pub order : ComeInOrder (length old.backend.seat.seen) served (length new.backend.seat.seen)
-  pub places : new.backend.seat.places ≡ old.backend.seat.places ++ blocks_of served
-  pub lone : OnTrue alone
-      (length new.backend.seat.seen ≡ length old.backend.seat.seen + length (blocks_of served))
-  pub rest : IsAtRest new.backend.seat
-  pub records : Told old.backend.used_up new.backend.used_up (λ was now. now ≡ was ++ spent_numbers served)
-  pub nexts : NextsRise old.backend.rooms new.backend.rooms
-  pub of_store : AllByRecursion (λ (x : Served). TellsOfStore new.backend.rooms x.block x.reply) served
+  pub each : AllByRecursion (IsServed old.hall.alone new.hall.seat.seen) served
+  pub seen : Begins old.hall.seat.seen new.hall.seat.seen
+  pub legal : IsLegalHistory new.hall.seat.seen
+  pub order : ComeInOrder (length old.hall.seat.seen) served (length new.hall.seat.seen)
+  pub places : new.hall.seat.places ≡ old.hall.seat.places ++ blocks_of served
+  pub lone : OnTrue old.hall.alone
+      (length new.hall.seat.seen ≡ length old.hall.seat.seen + length (blocks_of served))
+  pub rest : IsAtRest new.hall.seat
+  pub goes_on : GoesOnServing (spent_numbers served) old.hall new.hall
+  pub of_store : AllByRecursion (λ (x : Served). TellsOfStore new.hall.rooms x.block x.reply) served
   pub input : Told old.left new.left (λ was now. ReadsRequests end was now served)
   pub output : Told old.held new.held (λ was now. WritesReplies end was now served)

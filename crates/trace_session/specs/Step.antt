@@ -1,5 +1,5 @@
 -- One step of a session: a request is read and answered, or the session ends.
-use Rattle.std.specs.Prelude.{◌≡◌, ◌≢◌, ℕ, Bool, List, [], ◌++◌, Option, None, Some}
+use Rattle.std.specs.Prelude.{◌≡◌, ◌≢◌, ℕ, List, [], ◌++◌, Option, None, Some}
 use Rattle.trace_base.specs.Outside.{Told}
 use Rattle.session_proto.specs.Reply.{reply_text}
 use Rattle.session_proto.specs.declared.reply.Reply.{Reply}
@@ -29,35 +29,34 @@ EndsBehind request (Some ends.WriteFault) = Unit {0}
 EndsBehind request (Some end) = ⊥
 
 -- The request was served, and its reply written. What is left to read doesn't matter.
-pub record AnswersOne (alone : Bool) (old new : SessionState) (request : WholeRequest) (result : Option End)
-    : Type 0 where
+pub record AnswersOne (old new : SessionState) (request : WholeRequest) (result : Option End) : Type 0 where
   pub reply : Reply
-  pub serves : Serves alone old.backend new.backend request reply
+  pub serves : Serves old.hall new.hall request reply
   pub written : Told old.held new.held (λ was now. WritesText result (reply_text reply) was now)
   pub ends : EndsBehind request result
 
 -- A request was taken from what was left to read, and answered.
-pub record TakesOne (alone : Bool) (old new : SessionState) (result : Option End) : Type 0 where
+pub record TakesOne (old new : SessionState) (result : Option End) : Type 0 where
   pub request : WholeRequest
   pub taken : Takes old.left new.left (λ bytes. Spells bytes request)
-  pub answers : AnswersOne alone old new request result
+  pub answers : AnswersOne old new request result
 
 -- Nothing was served, and nothing written: the bytes taken hold no whole request.
 pub record TakesNone (old new : SessionState) (P : List ℕ → List ℕ → Type 0) : Type 0 where
-  pub backend : new.backend ≡ old.backend
+  pub hall : new.hall ≡ old.hall
   pub held : new.held ≡ old.held
   pub taken : Told old.left new.left (λ was now. (bytes : List ℕ) × (was ≡ bytes ++ now)
       × (first_request bytes ≡ None) × P bytes now)
 
 -- What a step does, by its result. `pending` is what of the bytes that are left to read waits in the buffer.
-abbrev pub Steps : Bool → SessionState → SessionState → List ℕ → Option End → Type 0
-Steps alone old new pending (Some ends.Eof) =
+abbrev pub Steps : SessionState → SessionState → List ℕ → Option End → Type 0
+Steps old new pending (Some ends.Eof) =
     TakesNone old new (λ bytes now. (bytes ≡ []) × (now ≡ [])) × (pending ≡ [])
-Steps alone old new pending (Some ends.Cut) =
+Steps old new pending (Some ends.Cut) =
     TakesNone old new (λ bytes now. (bytes ≢ []) × (now ≡ [])) × (pending ≡ [])
-Steps alone old new pending (Some ends.ReadFault) =
+Steps old new pending (Some ends.ReadFault) =
     TakesNone old new (λ bytes now. Unit {0}) × (pending ≡ [])
-Steps alone old new pending result = TakesOne alone old new result
+Steps old new pending result = TakesOne old new result
 
 -- what came is the last request, or it isn't
 abbrev pub EndsWith : Incoming → Option End → Type 0

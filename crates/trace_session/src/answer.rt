@@ -27,21 +27,12 @@ pub fn answer<R: Wait, H: Hall, O: Sink>(
     output: &mut O,
     buf: &mut SessionBuf,
 ) -> Option<End>
-    requires rest { IsAtRest (H.seat hall.old) }
+    requires rest { IsAtRest (H.view hall.old).seat }
     requires limits { ComesWithinLimits incoming buf.old.input.text.items }
     ensures answers { (request : WholeRequest) → Is incoming buf.old.input.text.items request
-        → (left : Option (List ℕ)) → AnswersOne H.alone
-        (record {
-          backend = record { seat = H.seat hall.old; used_up = H.used_up hall.old; rooms = H.rooms hall.old };
-          left = left;
-          held = O.held output.old;
-        })
-        (record {
-          backend = record { seat = H.seat hall.new; used_up = H.used_up hall.new; rooms = H.rooms hall.new };
-          left = left;
-          held = O.held output.new;
-        })
-        request result }
+        → (left : Option (List ℕ)) → AnswersOne
+        (record { hall = H.view hall.old; left = left; held = O.held output.old })
+        (record { hall = H.view hall.new; left = left; held = O.held output.new }) request result }
     ensures input { buf.new.input ≡ buf.old.input }
     ensures writes { O.faults output.old ≤ O.faults output.new }
     ensures write_fault { result ≡ Some WriteFault → Rose (O.faults output.old) (O.faults output.new) }

@@ -6,9 +6,8 @@ ghost use Rattle.paje_lines.specs.Text.{info_of_text};
 ghost use Rattle.paje_reader.specs.TextSaid.{Says};
 ghost use Rattle.trace_session.specs.Serving.{Serves};
 ghost use Rattle.hall_trait.specs.Pass.{pass_view, IsFresh};
-ghost use Rattle.builders.specs.Builds.{BuildRecords};
 ghost use Rattle.builders.specs.Spending.{BuildSpends};
-ghost use Rattle.hall_trait.specs.Answers.{NextsRise};
+ghost use Rattle.builders.specs.View.{GoesOnBuilding};
 ghost use Rattle.trace_session.specs.Load.{AreTracksOf, FitAll, Publishes, refusal_of};
 
 use builders::build_track;
@@ -23,12 +22,9 @@ use trace_base::{MAX_TEXT, Seq, TraceInfo, TraceText, TrackStream};
 /// Serves the load of this text: where none of its lines is refused, its trace is opened.
 #[tactic(auto, using(crate::proofs::Opening::put_memory))]
 pub fn serve_load<R: Wait, H: Hall>(rt: &R, alloc: Global, hall: &mut H, text: &[u8]) -> Reply
-    requires rest { IsAtRest (H.seat hall.old) }
+    requires rest { IsAtRest (H.view hall.old).seat }
     requires limit { length text.now ≤ MAX_TEXT }
-    ensures { Serves H.alone
-        (record { seat = H.seat hall.old; used_up = H.used_up hall.old; rooms = H.rooms hall.old })
-        (record { seat = H.seat hall.new; used_up = H.used_up hall.new; rooms = H.rooms hall.new })
-        (Load text.now) result }
+    ensures { Serves (H.view hall.old) (H.view hall.new) (Load text.now) result }
 {
     match read_trace(alloc, text) {
         Ok(trace) => open_trace(rt, alloc, hall, trace),
@@ -41,14 +37,11 @@ pub fn serve_load<R: Wait, H: Hall>(rt: &R, alloc: Global, hall: &mut H, text: &
 
 // Opens a legal trace, publishes its tracks and seals it.
 fn open_trace<R: Wait, H: Hall>(rt: &R, alloc: Global, hall: &mut H, trace: TraceText) -> Reply
-    requires rest { IsAtRest (H.seat hall.old) }
+    requires rest { IsAtRest (H.view hall.old).seat }
     requires legal { IsLegalInfo (info_of_text trace) }
     requires lengths { length trace.tracks ≡ length trace.names.tracks }
     requires fits { FitAll (info_of_text trace) trace.tracks }
-    ensures { (text : List ℕ) → Says text trace → Serves H.alone
-        (record { seat = H.seat hall.old; used_up = H.used_up hall.old; rooms = H.rooms hall.old })
-        (record { seat = H.seat hall.new; used_up = H.used_up hall.new; rooms = H.rooms hall.new })
-        (Load text) result }
+    ensures { (text : List ℕ) → Says text trace → Serves (H.view hall.old) (H.view hall.new) (Load text) result }
 {
     let TraceText {
         names,
@@ -103,15 +96,14 @@ fn publish_all<R: Wait, H: Hall>(
     mut pass: LoadPass,
     tracks: Seq<TrackStream>,
 ) -> Result<u64, HallFault>
-    requires stakes { (H.seat hall.old).stakes ≡ [] }
-    requires passes { (H.seat hall.old).passes ≡ pass_view pass ∷ [] }
-    requires pins { (H.seat hall.old).pins ≡ [] }
+    requires stakes { (H.view hall.old).seat.stakes ≡ [] }
+    requires passes { (H.view hall.old).seat.passes ≡ pass_view pass ∷ [] }
+    requires pins { (H.view hall.old).seat.pins ≡ [] }
     requires fresh { IsFresh pass (length tracks) }
-    requires tracks { AreTracksOf (H.seat hall.old).seen pass.id tracks }
-    ensures published { Publishes H.alone (H.seat hall.old) (H.seat hall.new) pass.id tracks result }
-    ensures records { BuildRecords (H.used_up hall.old) (H.used_up hall.new) result }
-    ensures nexts { NextsRise (H.rooms hall.old) (H.rooms hall.new) }
-    ensures spent { BuildSpends (H.rooms hall.new) result }
+    requires tracks { AreTracksOf (H.view hall.old).seat.seen pass.id tracks }
+    ensures published { Publishes (H.view hall.old) (H.view hall.new) pass.id tracks result }
+    ensures rest { GoesOnBuilding result (H.view hall.old) (H.view hall.new) }
+    ensures spent { BuildSpends (H.view hall.new).rooms result }
 {
     for s in tracks.into_vec() {
         match build_track(rt, alloc, hall, &s) {

@@ -4,7 +4,7 @@ ghost use Rattle.trace_base.specs.Flat.{flat};
 ghost use Rattle.trace_base.specs.Stream.{IsLegal};
 ghost use Rattle.trace_base.specs.declared.stream.TrackStream.{TrackStream};
 ghost use Rattle.hall_history.specs.History.{info_of, tracks_of};
-ghost use Rattle.hall_trait.specs.Answers.{NextsRise, RecordsNone};
+ghost use Rattle.builders.specs.Reads.{OnlyReads};
 ghost use Rattle.hall_trait.specs.Pin.{pin_view, first_id};
 ghost use Rattle.hall_history.specs.Seat.{IsAtRest};
 ghost use Rattle.request_reader.specs.Requests.{Line};
@@ -34,13 +34,10 @@ pub fn serve_flat<R: Wait, H: Hall>(
     a: u64,
     b: u64,
 ) -> Reply
-    requires rest { IsAtRest (H.seat hall.old) }
+    requires rest { IsAtRest (H.view hall.old).seat }
     requires below { a < b }
     requires limit { b ≤ MAX_TIME }
-    ensures { Serves H.alone
-        (record { seat = H.seat hall.old; used_up = H.used_up hall.old; rooms = H.rooms hall.old })
-        (record { seat = H.seat hall.new; used_up = H.used_up hall.new; rooms = H.rooms hall.new })
-        (Line (Flat id sel.All a b)) result }
+    ensures { Serves (H.view hall.old) (H.view hall.new) (Line (Flat id sel.All a b)) result }
 {
     match hall.ask(rt, AskIds::One(id)) {
         AskAnswer::Pinned(pin) => {
@@ -66,18 +63,16 @@ fn pinned_profile<R: Wait, H: Hall>(
     a: u64,
     b: u64,
 ) -> Reply
-    requires has { Contains (H.seat hall.old).pins (pin_view pin.now) }
-    requires tracks { pin.now.first.tracks ≡ tracks_of (take pin.now.place (H.seat hall.old).seen)
+    requires has { Contains (H.view hall.old).seat.pins (pin_view pin.now) }
+    requires tracks { pin.now.first.tracks ≡ tracks_of (take pin.now.place (H.view hall.old).seat.seen)
         (first_id pin.now.ids) }
     requires below { a < b }
     requires limit { b ≤ MAX_TIME }
-    ensures reply { let seen = take pin.now.place (H.seat hall.old).seen in let id = first_id pin.now.ids in
+    ensures reply { let seen = take pin.now.place (H.view hall.old).seat.seen in let id = first_id pin.now.ids in
         (result ≡ profile_reply (length (streams_of seen id)) (functions_of seen id) pin.now.place
         (flat (streams_of seen id) a b))
         ⊎ (result ≡ Refused NoMemory) }
-    ensures seat { H.seat hall.new ≡ H.seat hall.old }
-    ensures records { RecordsNone (H.used_up hall.old) (H.used_up hall.new) }
-    ensures nexts { NextsRise (H.rooms hall.old) (H.rooms hall.new) }
+    ensures rest { OnlyReads (H.view hall.old) (H.view hall.new) }
 {
     let Ok(info) = hall.info(rt, pin, 0) else {
         return Reply::No(No::Memory);
@@ -98,18 +93,16 @@ fn profile_over<R: Wait, H: Hall>(
     a: u64,
     b: u64,
 ) -> Result<Reply, Memory>
-    requires has { Contains (H.seat hall.old).pins (pin_view pin.now) }
-    requires tracks { pin.now.first.tracks ≡ tracks_of (take pin.now.place (H.seat hall.old).seen)
+    requires has { Contains (H.view hall.old).seat.pins (pin_view pin.now) }
+    requires tracks { pin.now.first.tracks ≡ tracks_of (take pin.now.place (H.view hall.old).seat.seen)
         (first_id pin.now.ids) }
     requires few { pin.now.first.tracks ≤ MAX_TRACKS }
     requires below { a < b }
     requires limit { b ≤ MAX_TIME }
-    ensures reply { let streams = streams_of (take pin.now.place (H.seat hall.old).seen)
+    ensures reply { let streams = streams_of (take pin.now.place (H.view hall.old).seat.seen)
         (first_id pin.now.ids) in
         IfOk result (λ r. r ≡ profile_reply (length streams) functions.now pin.now.place (flat streams a b)) }
-    ensures seat { H.seat hall.new ≡ H.seat hall.old }
-    ensures records { RecordsNone (H.used_up hall.old) (H.used_up hall.new) }
-    ensures nexts { NextsRise (H.rooms hall.old) (H.rooms hall.new) }
+    ensures rest { OnlyReads (H.view hall.old) (H.view hall.new) }
 {
     let streams = published_streams(rt, alloc, hall, pin)?;
     let over = streams.len() as u32;
@@ -132,16 +125,14 @@ fn published_streams<R: Wait, H: Hall>(
     hall: &mut H,
     pin: &Pin,
 ) -> Result<Vec<TrackStream>, Memory>
-    requires has { Contains (H.seat hall.old).pins (pin_view pin.now) }
-    requires tracks { pin.now.first.tracks ≡ tracks_of (take pin.now.place (H.seat hall.old).seen)
+    requires has { Contains (H.view hall.old).seat.pins (pin_view pin.now) }
+    requires tracks { pin.now.first.tracks ≡ tracks_of (take pin.now.place (H.view hall.old).seat.seen)
         (first_id pin.now.ids) }
-    ensures streams { IfOk result (λ v. v.items ≡ streams_of (take pin.now.place (H.seat hall.old).seen)
+    ensures streams { IfOk result (λ v. v.items ≡ streams_of (take pin.now.place (H.view hall.old).seat.seen)
         (first_id pin.now.ids)) }
     ensures few { IfOk result (λ v. length v.items ≤ pin.now.first.tracks) }
     ensures legal { IfOk result (λ v. All IsLegal v.items) }
-    ensures seat { H.seat hall.new ≡ H.seat hall.old }
-    ensures records { RecordsNone (H.used_up hall.old) (H.used_up hall.new) }
-    ensures nexts { NextsRise (H.rooms hall.old) (H.rooms hall.new) }
+    ensures rest { OnlyReads (H.view hall.old) (H.view hall.new) }
 {
     let mut streams = Vec::new(alloc);
     for track in 0..pin.first.tracks {

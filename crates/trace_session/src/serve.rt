@@ -22,12 +22,9 @@ pub fn serve<R: Wait, H: Hall>(
     incoming: Incoming,
     text: &[u8],
 ) -> Reply
-    requires rest { IsAtRest (H.seat hall.old) }
+    requires rest { IsAtRest (H.view hall.old).seat }
     requires limits { ComesWithinLimits incoming text.now }
-    ensures { (request : WholeRequest) → Is incoming text.now request → Serves H.alone
-        (record { seat = H.seat hall.old; used_up = H.used_up hall.old; rooms = H.rooms hall.old })
-        (record { seat = H.seat hall.new; used_up = H.used_up hall.new; rooms = H.rooms hall.new })
-        request result }
+    ensures { (request : WholeRequest) → Is incoming text.now request → Serves (H.view hall.old) (H.view hall.new) request result }
 {
     match incoming {
         Incoming::Line(request) => serve_line(rt, alloc, hall, request),
@@ -41,13 +38,10 @@ pub fn serve<R: Wait, H: Hall>(
 // Serves a request line that no text follows.
 #[tactic(auto, using(crate::proofs::Plain::serves_quit))]
 fn serve_line<R: Wait, H: Hall>(rt: &R, alloc: Global, hall: &mut H, request: Request) -> Reply
-    requires rest { IsAtRest (H.seat hall.old) }
+    requires rest { IsAtRest (H.view hall.old).seat }
     requires no_text { text_length request ≡ None }
     requires limits { IsWithinLimits request }
-    ensures { Serves H.alone
-        (record { seat = H.seat hall.old; used_up = H.used_up hall.old; rooms = H.rooms hall.old })
-        (record { seat = H.seat hall.new; used_up = H.used_up hall.new; rooms = H.rooms hall.new })
-        (Line request) result }
+    ensures { Serves (H.view hall.old) (H.view hall.new) (Line request) result }
 {
     match request {
         Request::Put(_) => unreachable!(),

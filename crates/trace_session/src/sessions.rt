@@ -41,18 +41,10 @@ pub fn session<R: Wait, H: Hall, I: Source, O: Sink>(
     output: &mut O,
     buf: &mut SessionBuf,
 ) -> End
-    requires { IsAtRest (H.seat hall.old) }
-    ensures session { IsSession H.alone
-        (record {
-          backend = record { seat = H.seat hall.old; used_up = H.used_up hall.old; rooms = H.rooms hall.old };
-          left = I.left input.old;
-          held = O.held output.old;
-        })
-        (record {
-          backend = record { seat = H.seat hall.new; used_up = H.used_up hall.new; rooms = H.rooms hall.new };
-          left = I.left input.new;
-          held = O.held output.new;
-        }) result }
+    requires { IsAtRest (H.view hall.old).seat }
+    ensures session { IsSession
+        (record { hall = H.view hall.old; left = I.left input.old; held = O.held output.old })
+        (record { hall = H.view hall.new; left = I.left input.new; held = O.held output.new }) result }
     ensures later { O.faults output.old ≤ O.faults output.new }
     ensures read_fault { result ≡ ReadFault → Rose (I.faults input.old) (I.faults input.new) }
     ensures write_fault { result ≡ WriteFault → Rose (O.faults output.old) (O.faults output.new) }
@@ -76,15 +68,15 @@ fn step<R: Wait, H: Hall, I: Source, O: Sink>(
     output: &mut O,
     buf: &mut SessionBuf,
 ) -> Option<End>
-    requires { IsAtRest (H.seat hall.old) }
-    ensures steps { Steps H.alone
+    requires { IsAtRest (H.view hall.old).seat }
+    ensures steps { Steps
         (record {
-          backend = record { seat = H.seat hall.old; used_up = H.used_up hall.old; rooms = H.rooms hall.old };
+          hall = H.view hall.old;
           left = left_to_read buf.old.input.pending (I.left input.old);
           held = O.held output.old;
         })
         (record {
-          backend = record { seat = H.seat hall.new; used_up = H.used_up hall.new; rooms = H.rooms hall.new };
+          hall = H.view hall.new;
           left = left_to_read buf.new.input.pending (I.left input.new);
           held = O.held output.new;
         })

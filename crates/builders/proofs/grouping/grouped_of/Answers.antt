@@ -1,7 +1,8 @@
 use Rattle.std.proofs.Common.{◌≡◌, ◌+◌, ◌-◌, ◌∙◌, ◌≤◌, List, ap, arith, min, take, drop, refl, length}
-use Rattle.std.proofs.Common.{take_all, ℕ, []}
+use Rattle.std.proofs.Common.{take_all, ℕ, [], Err}
 use Rattle.std.proofs.lemmas.List.{length-drop}
 use Rattle.node_key.specs.Bound.{grouped}
+use Rattle.hall_trait.specs.View.{Account}
 use Rattle.builders.specs.Built.{items_in, stakes_held}
 use Rattle.builders.specs.Builds.{nodes_in}
 use Rattle.builders.specs.declared.built.BuiltItem.{BuiltItem}
@@ -10,15 +11,19 @@ use Rattle.builders.proofs.GroupingItems.{GroupingItems-end, GroupingItems-more,
 use Rattle.builders.proofs.GroupingItems.{GroupingItems-work, chunk_is, refused-work}
 use Rattle.builders.proofs.CountingNodes.{work-refused}
 use Rattle.builders.proofs.GroupingItems.{Split-chunk, refused-front, refused-groups, refused-left}
-use Rattle.builders.proofs.Spending.{nexts_same, nexts_then, spends_later}
+use Rattle.builders.proofs.BuildingViews.{building_then, refused_then, working_same, working_then}
+use Rattle.builders.proofs.KeepingOthers.{others_more}
+use Rattle.builders.proofs.Spending.{spends_later}
+use Rattle.hall_trait.proofs.Views.{goes_on_then}
 use Rattle.builders.proofs.grouping.grouped_of.Goals as goal
 
 pub chunks-init : goal.chunks-init
 chunks-init g c = record {
-  grouping = GroupingItems-start (g.H.Hall.seat c.args.hall.now) (g.H.Hall.work c.args.hall.now) c.args.items
+  grouping = GroupingItems-start (g.H.Hall.view c.args.hall.now).seat
+      (g.H.Hall.view c.args.hall.now).account.work c.args.items
       c.into_vec-list.result.items c.len-number.result c.into_vec-list.ensures c.len-number.ensures;
-  used_up = refl;
-  nexts = nexts_same (g.H.Hall.rooms c.args.hall.now);
+  reach = λ stored held by_what n t has led. led;
+  rest = working_same (g.H.Hall.view c.args.hall.now);
 }
 
 -- what is grouped next, in the form of the code
@@ -41,8 +46,9 @@ group_of-requires-clause-held g c =
     let here = c.chunks.invariant.grouping in
     let s = here.parts c.requires.0 c.requires.1 in (
       take 8 s.left,
-      Split-chunk (g.H.Hall.seat c.args.hall.now) (g.H.Hall.seat c.chunks.hall)
-          (g.H.Hall.work c.args.hall.now) (g.H.Hall.work c.chunks.hall) c.args.items c.chunks.list.items _
+      Split-chunk (g.H.Hall.view c.args.hall.now).seat (g.H.Hall.view c.chunks.hall).seat
+          (g.H.Hall.view c.args.hall.now).account.work (g.H.Hall.view c.chunks.hall).account.work
+          c.args.items c.chunks.list.items _
           c.requires.0 c.chunks.groups c.chunks.from c.requires.1 s
           (next_chunk c.chunks.list.items c.deref.result.now c.len-number.result c.chunks.from c.min.result
           c.deref.ensures.value here.size c.min.ensures here.back),
@@ -52,22 +58,30 @@ pub chunks-preserved : goal.chunks-preserved
 chunks-preserved g c =
     let here = c.chunks.invariant.grouping in
     let is = next_chunk c.chunks.list.items c.deref.result.now c.len-number.result c.chunks.from c.min.result
-    c.deref.ensures.value here.size c.min.ensures here.back in record {
-      grouping = GroupingItems-more (g.H.Hall.seat c.args.hall.now) (g.H.Hall.seat c.chunks.hall)
-          (g.H.Hall.seat c.group_of.new.hall) (g.H.Hall.work c.args.hall.now) (g.H.Hall.work c.chunks.hall)
-          (g.H.Hall.work c.group_of.new.hall) c.args.items c.chunks.list.items _ _ c.len-number.result
-          c.chunks.groups c.chunks.from _ c.in-Ok.group here c.chunks-test.true
-          (ap (λ (k : ℕ). c.chunks.from + k) c.min.ensures) is refl c.in-Ok.ensures.answer
-          c.in-Ok.ensures.work;
-      used_up = c.in-Ok.ensures.records ∙ c.chunks.invariant.used_up;
-      nexts = nexts_then (g.H.Hall.rooms c.args.hall.now) (g.H.Hall.rooms c.chunks.hall)
-          (g.H.Hall.rooms c.group_of.new.hall) c.chunks.invariant.nexts c.group_of.ensures.nexts;
+    c.deref.ensures.value here.size c.min.ensures here.back in
+    let grouping = GroupingItems-more (g.H.Hall.view c.args.hall.now).seat (g.H.Hall.view c.chunks.hall).seat
+    (g.H.Hall.view c.group_of.new.hall).seat (g.H.Hall.view c.args.hall.now).account.work
+    (g.H.Hall.view c.chunks.hall).account.work
+    (g.H.Hall.view c.group_of.new.hall).account.work c.args.items c.chunks.list.items _ _
+    c.len-number.result
+    c.chunks.groups c.chunks.from _ c.in-Ok.group here c.chunks-test.true
+    (ap (λ (k : ℕ). c.chunks.from + k) c.min.ensures) is refl c.in-Ok.ensures.answer
+    c.in-Ok.ensures.work in
+    record {
+      grouping = grouping;
+      reach = λ stored held. others_more (g.H.Hall.view c.args.hall.now).seat
+          (g.H.Hall.view c.group_of.new.hall).seat (stakes_held stored) _ (g.H.Hall.reaches c.args.hall.now)
+          (g.H.Hall.reaches c.chunks.hall) (g.H.Hall.reaches c.group_of.new.hall)
+          (grouping.parts stored held).exchanged (c.chunks.invariant.reach stored held) c.in-Ok.ensures.reach;
+      rest = working_then (g.H.Hall.view c.args.hall.now) (g.H.Hall.view c.chunks.hall)
+          (g.H.Hall.view c.group_of.new.hall) c.chunks.invariant.rest c.in-Ok.ensures.rest;
     }
 
 pub returns-clause-answer : goal.returns-clause-answer
 returns-clause-answer g c stored held =
-    GroupingItems-end (g.H.Hall.seat c.args.hall.now) (g.H.Hall.seat c.chunks.hall)
-    (g.H.Hall.work c.args.hall.now) (g.H.Hall.work c.chunks.hall) c.args.items c.chunks.list.items
+    GroupingItems-end (g.H.Hall.view c.args.hall.now).seat (g.H.Hall.view c.chunks.hall).seat
+    (g.H.Hall.view c.args.hall.now).account.work (g.H.Hall.view c.chunks.hall).account.work c.args.items
+    c.chunks.list.items
     c.from_vec.result c.len-number.result c.chunks.groups c.chunks.from c.chunks.invariant.grouping
     (omega arith)
     (c.from_vec.ensures ∙ c.truncate.ensures.items) stored held
@@ -75,15 +89,16 @@ returns-clause-answer g c stored held =
 pub release_all-requires : goal.release_all-requires
 release_all-requires g c =
     let here = c.chunks.invariant.grouping in
-    let kept = refused-front (g.H.Hall.seat c.args.hall.now) (g.H.Hall.seat c.chunks.hall)
-    (g.H.Hall.seat c.group_of.new.hall) (g.H.Hall.work c.args.hall.now) (g.H.Hall.work c.chunks.hall)
+    let kept = refused-front (g.H.Hall.view c.args.hall.now).seat (g.H.Hall.view c.chunks.hall).seat
+    (g.H.Hall.view c.group_of.new.hall).seat (g.H.Hall.view c.args.hall.now).account.work
+    (g.H.Hall.view c.chunks.hall).account.work
     c.args.items
     c.chunks.list.items _ c.len-number.result c.chunks.groups c.chunks.from here
     (next_chunk c.chunks.list.items c.deref.result.now c.len-number.result c.chunks.from c.min.result
     c.deref.ensures.value here.size c.min.ensures here.back) c.in-Err.ensures.answer c.requires.0 c.requires.1
     in (
       kept.0,
-      refused-groups (g.H.Hall.seat c.group_of.new.hall) _ kept.0 kept.1
+      refused-groups (g.H.Hall.view c.group_of.new.hall).seat _ kept.0 kept.1
           (ap (λ (bs : List BuiltItem). take c.chunks.groups bs) c.deref-in-Err.ensures.value ∙ kept.2)
           kept.5,
     )
@@ -91,19 +106,21 @@ release_all-requires g c =
 pub release_all-requires-in-Err : goal.release_all-requires-in-Err
 release_all-requires-in-Err g c =
     let here = c.chunks.invariant.grouping in
-    let kept = refused-front (g.H.Hall.seat c.args.hall.now) (g.H.Hall.seat c.chunks.hall)
-    (g.H.Hall.seat c.group_of.new.hall) (g.H.Hall.work c.args.hall.now) (g.H.Hall.work c.chunks.hall)
+    let kept = refused-front (g.H.Hall.view c.args.hall.now).seat (g.H.Hall.view c.chunks.hall).seat
+    (g.H.Hall.view c.group_of.new.hall).seat (g.H.Hall.view c.args.hall.now).account.work
+    (g.H.Hall.view c.chunks.hall).account.work
     c.args.items
     c.chunks.list.items _ c.len-number.result c.chunks.groups c.chunks.from here
     (next_chunk c.chunks.list.items c.deref.result.now c.len-number.result c.chunks.from c.min.result
     c.deref.ensures.value here.size c.min.ensures here.back) c.in-Err.ensures.answer c.requires.0 c.requires.1
     in
-    let first = c.release_all.ensures.gone kept.0 (refused-groups (g.H.Hall.seat c.group_of.new.hall) _ kept.0
+    let first = c.release_all.ensures.gone kept.0 (refused-groups (g.H.Hall.view c.group_of.new.hall).seat _
+    kept.0
     kept.1
     (ap (λ (bs : List BuiltItem). take c.chunks.groups bs) c.deref-in-Err.ensures.value ∙ kept.2) kept.5) in (
       kept.1,
-      (refused-left (g.H.Hall.seat c.args.hall.now) (g.H.Hall.seat c.group_of.new.hall)
-          (g.H.Hall.seat c.release_all.new.hall) (stakes_held c.requires.0) _ kept.0 kept.1
+      (refused-left (g.H.Hall.view c.args.hall.now).seat (g.H.Hall.view c.group_of.new.hall).seat
+          (g.H.Hall.view c.release_all.new.hall).seat (stakes_held c.requires.0) _ kept.0 kept.1
           (left_is c.chunks.list.items c.deref-in-Err-2.result.now c.chunks.from
           c.deref-in-Err-2.ensures.value
           ∙ kept.3) kept.4 kept.5 first).0,
@@ -112,57 +129,94 @@ release_all-requires-in-Err g c =
 pub returns-in-Err-clause-answer : goal.returns-in-Err-clause-answer
 returns-in-Err-clause-answer g c stored held =
     let here = c.chunks.invariant.grouping in
-    let kept = refused-front (g.H.Hall.seat c.args.hall.now) (g.H.Hall.seat c.chunks.hall)
-    (g.H.Hall.seat c.group_of.new.hall) (g.H.Hall.work c.args.hall.now) (g.H.Hall.work c.chunks.hall)
+    let kept = refused-front (g.H.Hall.view c.args.hall.now).seat (g.H.Hall.view c.chunks.hall).seat
+    (g.H.Hall.view c.group_of.new.hall).seat (g.H.Hall.view c.args.hall.now).account.work
+    (g.H.Hall.view c.chunks.hall).account.work
     c.args.items
     c.chunks.list.items _ c.len-number.result c.chunks.groups c.chunks.from here
     (next_chunk c.chunks.list.items c.deref.result.now c.len-number.result c.chunks.from c.min.result
     c.deref.ensures.value here.size c.min.ensures here.back) c.in-Err.ensures.answer stored held in
-    let first = c.release_all.ensures.gone kept.0 (refused-groups (g.H.Hall.seat c.group_of.new.hall) _ kept.0
+    let first = c.release_all.ensures.gone kept.0 (refused-groups (g.H.Hall.view c.group_of.new.hall).seat _
+    kept.0
     kept.1
     (ap (λ (bs : List BuiltItem). take c.chunks.groups bs) c.deref-in-Err.ensures.value ∙ kept.2) kept.5) in
-    let second = refused-left (g.H.Hall.seat c.args.hall.now) (g.H.Hall.seat c.group_of.new.hall)
-    (g.H.Hall.seat c.release_all.new.hall) (stakes_held stored) _ kept.0 kept.1
+    let second = refused-left (g.H.Hall.view c.args.hall.now).seat (g.H.Hall.view c.group_of.new.hall).seat
+    (g.H.Hall.view c.release_all.new.hall).seat (stakes_held stored) _ kept.0 kept.1
     (left_is c.chunks.list.items c.deref-in-Err-2.result.now c.chunks.from c.deref-in-Err-2.ensures.value
     ∙ kept.3) kept.4 kept.5 first in
-    exchanges-then (g.H.Hall.seat c.args.hall.now) (g.H.Hall.seat c.release_all.new.hall)
-    (g.H.Hall.seat c.release_all-in-Err.new.hall) (stakes_held stored) (stakes_held kept.1) [] second.1
+    exchanges-then (g.H.Hall.view c.args.hall.now).seat (g.H.Hall.view c.release_all.new.hall).seat
+    (g.H.Hall.view c.release_all-in-Err.new.hall).seat (stakes_held stored) (stakes_held kept.1) [] second.1
     (c.release_all-in-Err.ensures.gone kept.1 second.0)
-
-pub returns-in-Err-clause-nexts : goal.returns-in-Err-clause-nexts
-returns-in-Err-clause-nexts g c =
-    (nexts_then (g.H.Hall.rooms c.args.hall.now) (g.H.Hall.rooms c.release_all.new.hall)
-    (g.H.Hall.rooms c.release_all-in-Err.new.hall) (nexts_then (g.H.Hall.rooms c.args.hall.now)
-    (g.H.Hall.rooms c.group_of.new.hall) (g.H.Hall.rooms c.release_all.new.hall) (nexts_then
-    (g.H.Hall.rooms c.args.hall.now) (g.H.Hall.rooms c.chunks.hall)
-    (g.H.Hall.rooms c.group_of.new.hall) c.chunks.invariant.nexts c.group_of.ensures.nexts)
-    c.release_all.ensures.nexts) c.release_all-in-Err.ensures.nexts)
 
 pub returns-in-Err-clause-spent : goal.returns-in-Err-clause-spent
 returns-in-Err-clause-spent g c =
-    spends_later (g.H.Hall.rooms c.group_of.new.hall) (g.H.Hall.rooms c.release_all-in-Err.new.hall)
+    spends_later (g.H.Hall.view c.group_of.new.hall).rooms (g.H.Hall.view c.release_all-in-Err.new.hall).rooms
     c.in-Err.fault
-    (nexts_then (g.H.Hall.rooms c.group_of.new.hall) (g.H.Hall.rooms c.release_all.new.hall)
-    (g.H.Hall.rooms c.release_all-in-Err.new.hall) c.release_all.ensures.nexts
-    c.release_all-in-Err.ensures.nexts) c.in-Err.ensures.spent
+    (goes_on_then (g.H.Hall.view c.group_of.new.hall) (g.H.Hall.view c.release_all.new.hall)
+    (g.H.Hall.view c.release_all-in-Err.new.hall) c.release_all.ensures.rest
+    c.release_all-in-Err.ensures.rest).rooms c.in-Err.ensures.spent
 
 pub returns-clause-work : goal.returns-clause-work
 returns-clause-work g c stored held =
-    GroupingItems-work (g.H.Hall.seat c.args.hall.now) (g.H.Hall.seat c.chunks.hall)
-    (g.H.Hall.work c.args.hall.now) (g.H.Hall.work c.chunks.hall) c.args.items c.chunks.list.items
+    GroupingItems-work (g.H.Hall.view c.args.hall.now).seat (g.H.Hall.view c.chunks.hall).seat
+    (g.H.Hall.view c.args.hall.now).account.work (g.H.Hall.view c.chunks.hall).account.work c.args.items
+    c.chunks.list.items
     c.from_vec.result c.len-number.result c.chunks.groups c.chunks.from c.chunks.invariant.grouping
     (omega arith) stored held
 
 pub returns-in-Err-clause-work : goal.returns-in-Err-clause-work
 returns-in-Err-clause-work g c stored held =
     let here = c.chunks.invariant.grouping in
-    work-refused (g.H.Hall.work c.args.hall.now) (g.H.Hall.work c.group_of.new.hall)
-    (g.H.Hall.work c.release_all-in-Err.new.hall) (nodes_in (items_in stored))
+    work-refused (g.H.Hall.view c.args.hall.now).account.work (g.H.Hall.view c.group_of.new.hall).account.work
+    (g.H.Hall.view c.release_all-in-Err.new.hall).account.work (nodes_in (items_in stored))
     (nodes_in (grouped (items_in stored)))
-    (refused-work (g.H.Hall.seat c.args.hall.now) (g.H.Hall.seat c.chunks.hall)
-    (g.H.Hall.work c.args.hall.now) (g.H.Hall.work c.chunks.hall) (g.H.Hall.work c.group_of.new.hall)
+    (refused-work (g.H.Hall.view c.args.hall.now).seat (g.H.Hall.view c.chunks.hall).seat
+    (g.H.Hall.view c.args.hall.now).account.work (g.H.Hall.view c.chunks.hall).account.work
+    (g.H.Hall.view c.group_of.new.hall).account.work
     c.args.items c.chunks.list.items _ c.len-number.result c.chunks.groups c.chunks.from c.in-Err.fault here
     c.chunks-test.true
     (next_chunk c.chunks.list.items c.deref.result.now c.len-number.result c.chunks.from c.min.result
     c.deref.ensures.value here.size c.min.ensures here.back) c.in-Err.ensures.work stored held)
-    (c.release_all-in-Err.ensures.work ∙ c.release_all.ensures.work)
+    (ap (λ (a : Account). a.work)
+    (c.release_all-in-Err.ensures.rest.account ∙ c.release_all.ensures.rest.account))
+
+pub returns-in-Err-clause-rest : goal.returns-in-Err-clause-rest
+returns-in-Err-clause-rest g c =
+    refused_then (g.H.Hall.view c.args.hall.now) (g.H.Hall.view c.group_of.new.hall)
+    (g.H.Hall.view c.release_all-in-Err.new.hall) c.in-Err.fault
+    (building_then {X = ℕ} (g.H.Hall.view c.args.hall.now) (g.H.Hall.view c.chunks.hall)
+    (g.H.Hall.view c.group_of.new.hall) (Err c.in-Err.fault) c.chunks.invariant.rest c.in-Err.ensures.rest)
+    (goes_on_then (g.H.Hall.view c.group_of.new.hall) (g.H.Hall.view c.release_all.new.hall)
+    (g.H.Hall.view c.release_all-in-Err.new.hall) c.release_all.ensures.rest
+    c.release_all-in-Err.ensures.rest)
+
+pub returns-clause-reach : goal.returns-clause-reach
+returns-clause-reach g c = c.chunks.invariant.reach
+
+pub returns-in-Err-clause-reach : goal.returns-in-Err-clause-reach
+returns-in-Err-clause-reach g c stored held =
+    let here = c.chunks.invariant.grouping in
+    let old = (g.H.Hall.view c.args.hall.now).seat in
+    let kept = refused-front (g.H.Hall.view c.args.hall.now).seat (g.H.Hall.view c.chunks.hall).seat
+    (g.H.Hall.view c.group_of.new.hall).seat (g.H.Hall.view c.args.hall.now).account.work
+    (g.H.Hall.view c.chunks.hall).account.work c.args.items c.chunks.list.items _ c.len-number.result
+    c.chunks.groups c.chunks.from here
+    (next_chunk c.chunks.list.items c.deref.result.now c.len-number.result c.chunks.from c.min.result
+    c.deref.ensures.value here.size c.min.ensures here.back) c.in-Err.ensures.answer stored held in
+    let first = c.release_all.ensures.gone kept.0
+    (refused-groups (g.H.Hall.view c.group_of.new.hall).seat _ kept.0 kept.1
+    (ap (λ (bs : List BuiltItem). take c.chunks.groups bs) c.deref-in-Err.ensures.value ∙ kept.2) kept.5) in
+    let second = refused-left (g.H.Hall.view c.args.hall.now).seat (g.H.Hall.view c.group_of.new.hall).seat
+    (g.H.Hall.view c.release_all.new.hall).seat (stakes_held stored) _ kept.0 kept.1
+    (left_is c.chunks.list.items c.deref-in-Err-2.result.now c.chunks.from c.deref-in-Err-2.ensures.value
+    ∙ kept.3) kept.4 kept.5 first in
+    let asked = others_more old (g.H.Hall.view c.group_of.new.hall).seat (stakes_held stored) _
+    (g.H.Hall.reaches c.args.hall.now) (g.H.Hall.reaches c.chunks.hall) (g.H.Hall.reaches c.group_of.new.hall)
+    kept.4 (c.chunks.invariant.reach stored held) c.group_of.ensures.reach in
+    let groups = others_more old (g.H.Hall.view c.release_all.new.hall).seat (stakes_held stored)
+    (stakes_held kept.1) (g.H.Hall.reaches c.args.hall.now) (g.H.Hall.reaches c.group_of.new.hall)
+    (g.H.Hall.reaches c.release_all.new.hall) second.1 asked c.release_all.ensures.reach in
+    others_more old (g.H.Hall.view c.release_all-in-Err.new.hall).seat (stakes_held stored) []
+    (g.H.Hall.reaches c.args.hall.now) (g.H.Hall.reaches c.release_all.new.hall)
+    (g.H.Hall.reaches c.release_all-in-Err.new.hall) (returns-in-Err-clause-answer g c stored held) groups
+    c.release_all-in-Err.ensures.reach

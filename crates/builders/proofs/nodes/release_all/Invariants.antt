@@ -1,12 +1,11 @@
-use Rattle.std.proofs.Common.{◌≡◌}
-use Rattle.hall_trait.specs.Answers.{NextsRise}
+use Rattle.hall_trait.specs.Reach.{KeepsReach}
+use Rattle.hall_trait.specs.View.{GoesOn}
 use Rattle.builders.proofs.Interning.{Releasing}
 use Rattle.builders.proofs.nodes.release_all.Given as goal
 
 abbrev pub invariant-loop-item : goal.invariant-loop-item
 invariant-loop-item g l = record {
-  releasing : Releasing (g.H.Hall.seat l.fn.hall) (g.H.Hall.seat l.hall) l.items l.item-index;
-  used_up : g.H.Hall.used_up l.hall ≡ g.H.Hall.used_up l.fn.hall;
-  work : g.H.Hall.work l.hall ≡ g.H.Hall.work l.fn.hall;
-  nexts : NextsRise (g.H.Hall.rooms l.fn.hall) (g.H.Hall.rooms l.hall);
+  releasing : Releasing (g.H.Hall.view l.fn.hall).seat (g.H.Hall.view l.hall).seat l.items l.item-index;
+  reach : KeepsReach (g.H.Hall.view l.hall).seat (g.H.Hall.reaches l.fn.hall) (g.H.Hall.reaches l.hall);
+  rest : GoesOn (g.H.Hall.view l.fn.hall) (g.H.Hall.view l.hall);
 }

@@ -1,5 +1,5 @@
-use Rattle.std.proofs.Common.{◌≡◌}
-use Rattle.hall_trait.specs.Answers.{NextsRise}
+use Rattle.hall_trait.specs.Reach.{HasSource, Source}
+use Rattle.builders.specs.Reads.{OnlyReads}
 use Rattle.builders.proofs.KeyReading.{ReadingKids}
 use Rattle.builders.proofs.reading.+push_events.Given as goal
 
@@ -8,11 +8,8 @@ decreases-push_events g l = l.key.now.height
 
 abbrev pub invariant-loop-i : goal.invariant-loop-i
 invariant-loop-i g l = record {
-  reading : ReadingKids (g.H.Hall.reaches l.fn.hall) (g.H.Hall.reaches l.hall) l.key l.fn.at l.initial.list
-      l.list
-      l.from l.i;
-  same : g.H.Hall.seat l.hall ≡ g.H.Hall.seat l.fn.hall;
-  used_up : g.H.Hall.used_up l.hall ≡ g.H.Hall.used_up l.fn.hall;
-  work : g.H.Hall.work l.hall ≡ g.H.Hall.work l.fn.hall;
-  nexts : NextsRise (g.H.Hall.rooms l.fn.hall) (g.H.Hall.rooms l.hall);
+  reading : (by_what : Source) → HasSource (g.H.Hall.view l.fn.hall).seat by_what
+      → ReadingKids (g.H.Hall.reaches l.fn.hall by_what) (g.H.Hall.reaches l.hall by_what) l.key l.fn.at
+      l.initial.list l.list l.from l.i;
+  rest : OnlyReads (g.H.Hall.view l.fn.hall) (g.H.Hall.view l.hall);
 }

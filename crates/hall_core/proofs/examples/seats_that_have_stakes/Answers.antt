@@ -1,4 +1,4 @@
-use Rattle.std.proofs.Common.{◌∷◌, [], arith, lit<, lit≤, refl, subst, sym}
+use Rattle.std.proofs.Common.{◌∷◌, [], arith, lit<, refl, subst, sym}
 use Rattle.std.proofs.lemmas.List.{length-map}
 use Rattle.list_lemmas.proofs.All.{All-from_Each}
 use Rattle.node_key.specs.Examples.{half, tenth, tenth_key}
@@ -51,7 +51,7 @@ returns-clause-leaf c = (
   (
     tenth,
     [],
-    record { over = record { key_of = tenth_keyed; kids = refl }; has = λ x. omega arith; low = lit≤ tt },
+    record { over = record { key_of = tenth_keyed; kids = refl }; has = λ x. omega arith },
   ),
 )
 
@@ -62,7 +62,7 @@ returns-clause-kids c = (
   (
     half,
     stake 0 tenth ∷ stake 0 tenth ∷ [],
-    record { over = record { key_of = half_keyed; kids = refl }; has = λ x. omega arith; low = lit≤ tt },
+    record { over = record { key_of = half_keyed; kids = refl }; has = λ x. omega arith },
   ),
 )
 

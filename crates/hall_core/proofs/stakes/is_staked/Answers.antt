@@ -1,6 +1,6 @@
 -- A kid that is wanting tells that there is no tree; where none is, the heights tell it.
 use Rattle.std.proofs.Common.{◌≡◌, length, arith}
-use Rattle.std.proofs.lemmas.Bool.{eq-eqb, eqb-true, false≢true, le-leb, leb-true}
+use Rattle.std.proofs.lemmas.Bool.{eq-eqb, eqb-true, false≢true}
 use Rattle.store_laws.specs.Store.{kids_in}
 use Rattle.hall_core.proofs.StakedKids.{so_far-end, so_far-more, wanting}
 use Rattle.hall_core.proofs.stakes.is_staked.Goals as goal
@@ -19,20 +19,11 @@ loop-kid-preserved c =
     c.loop-kid.kid-index _ c.in-Some.tree.now c.loop-kid.invariant c.loop-kid-test.true some.0 some.1 some.2
     (omega (arith, c.max-height.ensures, c.height.ensures.value))
 
-pub returns-then-key-height : goal.returns-then-key-height
-returns-then-key-height c =
+pub returns : goal.returns
+returns c =
     let len : length (kids_in c.args.key.now) ≡ c.args.key.now.len = omega arith in
     let end = so_far-end c.args.stakes.now c.args.key.now c.loop-kid.height c.loop-kid.kid-index c.requires
     c.loop-kid.invariant c.loop-kid-test.false len in (
-      λ low. end.0 (c.if-key-height.true, leb-true c.loop-kid.height 4096 low),
-      λ staked. le-leb c.loop-kid.height 4096 (end.1 staked).1,
-    )
-
-pub returns-else-key-height : goal.returns-else-key-height
-returns-else-key-height c =
-    let len : length (kids_in c.args.key.now) ≡ c.args.key.now.len = omega arith in
-    let end = so_far-end c.args.stakes.now c.args.key.now c.loop-kid.height c.loop-kid.kid-index c.requires
-    c.loop-kid.invariant c.loop-kid-test.false len in (
-      λ same. absurd (c.if-key-height.false (eqb-true c.args.key.now.height c.loop-kid.height same)),
-      λ staked. eq-eqb c.args.key.now.height c.loop-kid.height (end.1 staked).0,
+      λ same. end.0 (omega (arith, c.from-2.ensures, eqb-true c.from-2.result c.loop-kid.height same)),
+      λ staked. eq-eqb c.from-2.result c.loop-kid.height (omega (arith, c.from-2.ensures, end.1 staked)),
     )

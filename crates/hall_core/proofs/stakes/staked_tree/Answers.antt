@@ -1,5 +1,5 @@
 -- The items are those of the tree over the stakes, of which there is one.
-use Rattle.std.proofs.Common.{◌≡◌, refl, ◌∙◌}
+use Rattle.std.proofs.Common.{◌≡◌, refl, ◌∙◌, arith}
 use Rattle.std.proofs.lemmas.Result.{IfOk-weaker}
 use Rattle.node_key.specs.Items.{node}
 use Rattle.node_key.specs.Tree.{Tree}
@@ -23,7 +23,7 @@ pub new-requires : goal.new-requires
 new-requires c =
     let (t, kids, staked) = c.requires.staked in
     let end = items-end c.args.stakes.now c.args.key.now c.loop-kid.items c.loop-kid.from c.loop-kid.kid-index
-    c.loop-kid.invariant c.loop-kid-test.false t kids staked in
+    c.loop-kid.invariant c.loop-kid-test.false t kids staked (omega arith) in
     record { few = end.few; within = end.within; low = end.low }
 
 pub returns : goal.returns
@@ -31,5 +31,5 @@ returns c =
     IfOk-weaker c.new.result
     (λ (r : Tree). r ≡ node c.args.key.now.func 0 c.args.key.now.dur c.loop-kid.items) _
     (λ r made t kids staked. made ∙ (items-end c.args.stakes.now c.args.key.now c.loop-kid.items
-    c.loop-kid.from c.loop-kid.kid-index c.loop-kid.invariant c.loop-kid-test.false t kids staked).made)
+    c.loop-kid.from c.loop-kid.kid-index c.loop-kid.invariant c.loop-kid-test.false t kids staked (omega arith)).made)
     c.new.ensures

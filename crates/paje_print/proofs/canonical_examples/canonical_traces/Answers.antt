@@ -1,6 +1,6 @@
 use Rattle.paje_print.proofs.SmallCanonical.{beside-canonical, great-canonical, last-canonical}
 use Rattle.paje_print.proofs.SmallCanonical.{deepest-canonical, longest-canonical, most_types-canonical}
-use Rattle.paje_print.proofs.SmallCanonical.{small-canonical, two-canonical}
+use Rattle.paje_print.proofs.SmallCanonical.{linked-canonical, small-canonical, two-canonical}
 use Rattle.paje_print.proofs.canonical_examples.canonical_traces.Goals as goal
 
 pub returns-clause-small : goal.returns-clause-small
@@ -11,6 +11,9 @@ returns-clause-beside c = beside-canonical
 
 pub returns-clause-two_functions : goal.returns-clause-two_functions
 returns-clause-two_functions c = two-canonical
+
+pub returns-clause-two_link_types : goal.returns-clause-two_link_types
+returns-clause-two_link_types c = linked-canonical
 
 pub returns-clause-great_size : goal.returns-clause-great_size
 returns-clause-great_size c = great-canonical

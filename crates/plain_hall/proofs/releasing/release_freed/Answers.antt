@@ -4,7 +4,7 @@ use Rattle.node_key.specs.declared.stake.Stake.{Stake}
 use Rattle.node_store.specs.Given.{ever}
 use Rattle.node_store.specs.Kept.{KeepsFor}
 use Rattle.plain_hall.specs.Rooted.{stakes_under}
-use Rattle.plain_hall.proofs.Keeping.{nexts_same}
+use Rattle.hall_trait.proofs.Views.{later_same}
 use Rattle.plain_hall.proofs.releasing.release_freed.Goals as goal
 
 pub release_roots-requires-clause-roots : goal.release_roots-requires-clause-roots
@@ -14,4 +14,4 @@ release_roots-requires-clause-roots c =
     (unwrap_or o []) ++ rest)) c.in-Some.is c.requires.roots
 
 pub returns-in_default-clause-next : goal.returns-in_default-clause-next
-returns-in_default-clause-next c = nexts_same c.args.nodes.now.rooms
+returns-in_default-clause-next c = later_same c.args.nodes.now.rooms

@@ -2,7 +2,7 @@ use Rattle.std.proofs.Common.{refl, ◌++◌, ◌∙◌}
 use Rattle.node_store.specs.Given.{ever}
 use Rattle.node_store.specs.TreeUnder.{tree_under}
 use Rattle.plain_hall.specs.Rooted.{stakes_under}
-use Rattle.plain_hall.proofs.Keeping.{never_falls, nexts_same}
+use Rattle.hall_trait.proofs.Views.{later_same, later_then}
 use Rattle.plain_hall.proofs.RootStakes.{last_taken}
 use Rattle.plain_hall.proofs.releasing.release_roots.Goals as goal
 
@@ -11,7 +11,7 @@ loop-root-init c = record {
   given = refl;
   store = c.requires.store;
   roots = λ rest kept. kept;
-  next = nexts_same c.args.nodes.now.rooms;
+  next = later_same c.args.nodes.now.rooms;
 }
 
 pub drop_other-requires : goal.drop_other-requires
@@ -35,6 +35,6 @@ loop-root-preserved c =
           (stakes_under key_at c.pop.new.self ++ rest) (tree_under key_at c.in-Some.root)
           (c.loop-root.invariant.roots rest kept)
           (last_taken key_at c.loop-root.roots c.pop.new.self c.in-Some.root rest c.in-Some.ensures);
-      next = never_falls c.args.nodes.now.rooms c.loop-root.nodes.rooms c.drop_other.new.self.rooms
+      next = later_then c.args.nodes.now.rooms c.loop-root.nodes.rooms c.drop_other.new.self.rooms
           c.loop-root.invariant.next c.drop_other.ensures.next;
     }

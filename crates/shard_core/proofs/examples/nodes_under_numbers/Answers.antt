@@ -8,8 +8,8 @@ use Rattle.shard_core.proofs.examples.nodes_under_numbers.Goals as goal
 pub returns-clause-nothing : goal.returns-clause-nothing
 returns-clause-nothing c = get-empty nat_cmp last_number
 
-pub returns-clause-entered : goal.returns-clause-entered
-returns-clause-entered c = given_at last_number refl
+pub returns-clause-added : goal.returns-clause-added
+returns-clause-added c = given_at last_number refl
 
 pub returns-clause-elsewhere : goal.returns-clause-elsewhere
 returns-clause-elsewhere c = elsewhere

@@ -12,11 +12,7 @@ use Rattle.trace_session.proofs.answer.answer.Given.{Over}
 -- what the session works on over a hall
 abbrev state : (g : Over) → g.row.H.Denot → Option (List ℕ) → g.row.O.Denot → SessionState
 state g hall left output = record {
-  backend = record {
-    seat = g.H.Hall.seat hall;
-    used_up = g.H.Hall.used_up hall;
-    rooms = g.H.Hall.rooms hall;
-  };
+  hall = g.H.Hall.view hall;
   left = left;
   held = g.O.Sink.held output;
 }
@@ -41,7 +37,7 @@ returns-in-Ok-clause-answers g c = λ request is left.
     let is_text = same_text g t request is in
     let w = subst (λ (l : List ℕ). Told (before g t left).held (behind g t left).held
     (λ was now. now ≡ was ++ l)) c.as_slice-2.ensures.value c.in-Ok.ensures.ok in
-    answered_all g.H.Hall.alone (before g t left) (behind g t left) c.args.incoming c.as_slice.result.now
+    answered_all (before g t left) (behind g t left) c.args.incoming c.as_slice.result.now
     request c.end_of.result c.serve-reply.result c.reply_into.new.out.items is_text c.end_of.ensures
     (c.serve-reply.ensures request is_text) c.reply_into.ensures.told w
 
@@ -50,6 +46,6 @@ returns-clause-answers g c = λ request is left.
     let t = (goal.at.returns-clause-answers g c).After-write_all in
     let w = subst (λ (l : List ℕ). Told (before g t left).held (behind g t left).held (WritesFront l))
     c.as_slice-2.ensures.value c.in-Err.ensures.err in
-    answered_front g.H.Hall.alone (before g t left) (behind g t left) request c.serve-reply.result
+    answered_front (before g t left) (behind g t left) request c.serve-reply.result
     c.reply_into.new.out.items (c.serve-reply.ensures request (same_text g t request is))
     c.reply_into.ensures.told w

@@ -12,11 +12,7 @@ use Rattle.trace_session.proofs.sessions.session.Given.{Over}
 -- what the session works on over a hall
 abbrev state : (g : Over) → g.row.H.Denot → Option (List ℕ) → g.row.O.Denot → SessionState
 state g hall left output = record {
-  backend = record {
-    seat = g.H.Hall.seat hall;
-    used_up = g.H.Hall.used_up hall;
-    rooms = g.H.Hall.rooms hall;
-  };
+  hall = g.H.Hall.view hall;
   left = left;
   held = g.O.Sink.held output;
 }
@@ -39,8 +35,8 @@ pub requests-init : goal.requests-init
 requests-init g c =
     let old = state g c.args.hall.now (g.I.Source.left c.args.input.now) c.args.output.now in
     record {
-      sofar = subst (λ (p : List ℕ). Sofar g.H.Hall.alone old (record old { left = left_to_read p old.left }))
-          (sym c.clear.ensures) (sofar_none g.H.Hall.alone old c.requires);
+      sofar = subst (λ (p : List ℕ). Sofar old (record old { left = left_to_read p old.left }))
+          (sym c.clear.ensures) (sofar_none old c.requires);
       reads = omega arith;
       writes = omega arith;
     }
@@ -49,9 +45,9 @@ pub returns-in-Some-step-clause-session : goal.returns-in-Some-step-clause-sessi
 returns-in-Some-step-clause-session g c =
     let t = (goal.at.returns-in-Some-step-clause-session g c).After-step in
     let pending = c.step.new.buf.input.pending in
-    let s = subst (λ (r : Option End). Steps g.H.Hall.alone (before g t) (behind g t) pending r)
+    let s = subst (λ (r : Option End). Steps (before g t) (behind g t) pending r)
     c.in-Some-step.is c.step.ensures.steps in
-    step_ends c.in-Some-step.end g.H.Hall.alone (first g t) (before g t) (behind g t)
+    step_ends c.in-Some-step.end (first g t) (before g t) (behind g t)
     (g.I.Source.left c.step.new.input) pending refl c.requests.invariant.sofar s
     (g.met.H.Hall.legal c.step.new.hall)
 
@@ -59,10 +55,10 @@ pub requests-preserved : goal.requests-preserved
 requests-preserved g c =
     let t = (goal.at.requests-preserved g c).After-step in
     let s = subst
-    (λ (r : Option End). Steps g.H.Hall.alone (before g t) (behind g t) c.step.new.buf.input.pending r)
+    (λ (r : Option End). Steps (before g t) (behind g t) c.step.new.buf.input.pending r)
     c.in_default.is c.step.ensures.steps in
     record {
-      sofar = sofar_more g.H.Hall.alone (first g t) (before g t) (behind g t) c.requests.invariant.sofar s;
+      sofar = sofar_more (first g t) (before g t) (behind g t) c.requests.invariant.sofar s;
       reads = omega (arith, c.requests.invariant.reads, c.step.ensures.reads);
       writes = omega (arith, c.requests.invariant.writes, c.step.ensures.writes);
     }

@@ -5,22 +5,14 @@ use Rattle.trace_session.proofs.sessions.session.Given as goal
 
 abbrev pub invariant-requests : goal.invariant-requests
 invariant-requests g l = record {
-  sofar : Sofar g.H.Hall.alone
+  sofar : Sofar
       (record {
-        backend = record {
-          seat = g.H.Hall.seat l.fn.hall;
-          used_up = g.H.Hall.used_up l.fn.hall;
-          rooms = g.H.Hall.rooms l.fn.hall;
-        };
+        hall = g.H.Hall.view l.fn.hall;
         left = g.I.Source.left l.fn.input;
         held = g.O.Sink.held l.fn.output;
       })
       (record {
-        backend = record {
-          seat = g.H.Hall.seat l.hall;
-          used_up = g.H.Hall.used_up l.hall;
-          rooms = g.H.Hall.rooms l.hall;
-        };
+        hall = g.H.Hall.view l.hall;
         left = left_to_read l.buf.input.pending (g.I.Source.left l.input);
         held = g.O.Sink.held l.output;
       });

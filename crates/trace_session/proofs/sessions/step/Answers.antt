@@ -14,11 +14,7 @@ use Rattle.trace_session.proofs.sessions.step.Given.{Over}
 -- what the session works on over a hall
 abbrev state : (g : Over) → g.row.H.Denot → Option (List ℕ) → g.row.O.Denot → SessionState
 state g hall left output = record {
-  backend = record {
-    seat = g.H.Hall.seat hall;
-    used_up = g.H.Hall.used_up hall;
-    rooms = g.H.Hall.rooms hall;
-  };
+  hall = g.H.Hall.view hall;
   left = left;
   held = g.O.Sink.held output;
 }
@@ -43,8 +39,8 @@ returns-in-Err-clause-steps g c =
     let pending = c.next_request.new.buf.pending in
     let old = state g c.args.hall.now (at_first g t) c.args.output.now in
     let new = state g c.args.hall.now (left_then g t) c.args.output.now in
-    subst (λ (e : End). Steps g.H.Hall.alone old new pending (Some e)) (sym c.end_at.ensures)
-    (ended_early g.H.Hall.alone old new pending c.next_request.new.buf.text.items c.in-Err.end
+    subst (λ (e : End). Steps old new pending (Some e)) (sym c.end_at.ensures)
+    (ended_early old new pending c.next_request.new.buf.text.items c.in-Err.end
     (came_as g t (Err c.in-Err.end) c.in-Err.is) c.in-Err.ensures.empties refl refl)
 
 pub returns-in-Ok-clause-steps : goal.returns-in-Ok-clause-steps
@@ -53,9 +49,9 @@ returns-in-Ok-clause-steps g c =
     let old = state g c.args.hall.now (at_first g t) c.args.output.now in
     let new : InputBuf → SessionState = λ b. state g c.answer.new.hall
     (left_to_read b.pending (g.I.Source.left c.next_request.new.input)) c.answer.new.output in
-    subst (λ (b : InputBuf). Steps g.H.Hall.alone old (new b) b.pending c.answer.result)
+    subst (λ (b : InputBuf). Steps old (new b) b.pending c.answer.result)
     (sym c.answer.ensures.input)
-    (stepped g.H.Hall.alone old (new c.next_request.new.buf) c.next_request.new.buf.pending
+    (stepped old (new c.next_request.new.buf) c.next_request.new.buf.pending
     c.next_request.new.buf.text.items c.in-Ok.incoming c.answer.result
     (came_as g t (Ok c.in-Ok.incoming) c.in-Ok.is)
     (λ request is. let a = c.answer.ensures.answers request is None in record {

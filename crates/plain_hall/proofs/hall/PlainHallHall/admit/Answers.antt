@@ -14,36 +14,41 @@ use Rattle.registry_core.specs.Standing.{AreTrees}
 use Rattle.registry_core.specs.declared.answers.Opened.{Opened as OpenedTrace}
 use Rattle.registry_core.specs.declared.answers.RegFault.{RegFault}
 use Rattle.registry_core.specs.declared.answers.RegFault.TheVariants.{Full, Memory, Spent}
-use Rattle.plain_hall.specs.KeptHistory.{HasSpace, history}
-use Rattle.plain_hall.specs.PlainHall.{seen_by}
+use Rattle.registry_core.proofs.ToldCalls.{told-admitted}
+use Rattle.plain_hall.specs.KeptHistory.{HasSpace, entries_owed, history}
+use Rattle.plain_hall.specs.PlainHall.{pins_of, seen_by}
 use Rattle.plain_hall.specs.PlainSeat.{IsHeld, queries_of}
 use Rattle.plain_hall.specs.Whole.{IsSoundHall, at_first}
 use Rattle.plain_hall.specs.declared.hall.PlainHall.{PlainHall}
 use Rattle.plain_hall.specs.declared.kept_history.KeptHistory.{KeptHistory}
 use Rattle.plain_hall.specs.declared.root.Root.{Root}
+use Rattle.plain_hall.specs.Rooted.{with_trees}
 use Rattle.plain_hall.proofs.Calls.{asked_passes, opened_answer}
 use Rattle.plain_hall.proofs.Found.{held_more}
-use Rattle.plain_hall.proofs.Keeping.{nexts_same}
 use Rattle.plain_hall.proofs.LoadFacts.{last_place}
 use Rattle.plain_hall.proofs.Passes.{asked_keeps}
 use Rattle.plain_hall.proofs.Steps.{makes}
 use Rattle.plain_hall.proofs.WholeAfter.{seen_more}
 use Rattle.plain_hall.proofs.WholeCalls.{whole_asked, whole_opened}
+use Rattle.hall_trait.proofs.Views.{later_same}
+use Rattle.plain_hall.proofs.Owed.{owed-asked, owed-opened}
+use Rattle.plain_hall.proofs.Reached.{reach_still}
+use Rattle.plain_hall.proofs.Views.{goes_on_alike}
 use Rattle.plain_hall.proofs.hall.PlainHallHall.admit.Goals as goal
 
 -- with more space nothing else changes
 record Stays (was : PlainHall) (r : RegistryValue) (past : KeptHistory) : Type 0 where
   whole : IsSoundHall was.nodes r (history past) (queries_of was.pin)
-  space : HasSpace past r.promised
+  space : HasSpace past (entries_owed r)
   held : ForSome was.pin (IsHeld (history past))
 
 stays : (was : PlainHall) (r : RegistryValue) (past : KeptHistory) → r ≡ was.registry
-    → history past ≡ history was.past → HasSpace past was.registry.promised → Stays was r past
+    → history past ≡ history was.past → HasSpace past (entries_owed was.registry) → Stays was r past
 stays was r past is seen space = record {
   whole = subst (λ (r : RegistryValue). IsSoundHall was.nodes r (history past) (queries_of was.pin)) (sym is)
       (subst (λ (es : List (EntryOf Root)). IsSoundHall was.nodes was.registry es (queries_of was.pin)) (sym seen)
       was.whole);
-  space = subst (λ (r : RegistryValue). HasSpace past r.promised) (sym is) space;
+  space = subst (λ (r : RegistryValue). HasSpace past (entries_owed r)) (sym is) space;
   held = subst (λ (es : List (EntryOf Root)). ForSome was.pin (IsHeld es)) (sym seen) was.held;
 }
 
@@ -53,18 +58,12 @@ admits_same : (old new : RegistryValue) (kept info : TraceInfo) (a b : Result Op
 admits_same old new kept info a b same is admits = subst (λ (i : TraceInfo). AdmitsIn old i b new) same
     (subst (λ (o : Result OpenedTrace RegFault). AdmitsIn old kept o new) is admits)
 
-pub returns-in_default-clause-nexts : goal.returns-in_default-clause-nexts
-returns-in_default-clause-nexts g c = nexts_same _
-
 pub invariant_of-self : goal.invariant_of-self
 invariant_of-self g c =
     let was = c.args.self.now in
     let same = stays was was.registry c.reserve.new.self refl c.reserve.ensures.seen
-    (c.reserve.ensures.same was.registry.promised was.space) in
-    record { whole = same.whole; space = same.space; held = same.held }
-
-pub returns-in_default-reserve-clause-nexts : goal.returns-in_default-reserve-clause-nexts
-returns-in_default-reserve-clause-nexts g c = nexts_same _
+    (c.reserve.ensures.same (entries_owed was.registry) was.space) in
+    record { whole = same.whole; space = same.space; held = same.held; profiles = was.profiles }
 
 pub invariant_of-self-in-Ok-admit : goal.invariant_of-self-in-Ok-admit
 invariant_of-self-in-Ok-admit g c =
@@ -80,14 +79,16 @@ invariant_of-self-in-Ok-admit g c =
     record {
       whole = whole_opened was.nodes was.registry c.admit.new.self (history was.past) _ info opened _ seen c.requires
           admits was.whole;
-      space = c.push.ensures.space c.admit.new.self.promised (omega (
+      space = c.push.ensures.space (entries_owed c.admit.new.self) (omega (
         arith,
         c.in-Ok-reserve.ensures.space,
         c.promised.ensures,
+        c.open_traces.ensures,
         tracks,
-        ap (λ (r : RegistryValue). r.promised) admits.3,
+        owed-opened was.registry c.admit.new.self info opened admits,
       ));
       held = held_more _ _ _ was.pin seen was.held;
+      profiles = was.profiles;
     }
 
 pub returns-in-Ok-admit-clause-answer : goal.returns-in-Ok-admit-clause-answer
@@ -119,9 +120,6 @@ returns-in-Ok-admit-clause-answer g c =
     (last_place _ _ (seen_by was) _ _ pass.place was.whole.stands seen place) fresh
     (omega (arith, admits.0, was.whole.stands.place, was.whole.stands.promised)) was.whole.orderly
 
-pub returns-in-Ok-admit-clause-nexts : goal.returns-in-Ok-admit-clause-nexts
-returns-in-Ok-admit-clause-nexts g c = nexts_same _
-
 pub invariant_of-self-in-Err-Full : goal.invariant_of-self-in-Err-Full
 invariant_of-self-in-Err-Full g c =
     let was = c.args.self.now in
@@ -135,10 +133,12 @@ invariant_of-self-in-Err-Full g c =
           (omega (arith, admits.0)) was.whole;
       space = omega (
         arith,
-        c.push_asked.ensures.space was.registry.promised (c.reserve.ensures.same was.registry.promised was.space),
-        ap (λ (r : RegistryValue). r.promised) admits.3,
+        c.push_asked.ensures.space (entries_owed was.registry)
+            (c.reserve.ensures.same (entries_owed was.registry) was.space),
+        owed-asked was.registry c.admit.new.self admits.3,
       );
       held = held_more _ _ _ was.pin seen was.held;
+      profiles = was.profiles;
     }
 
 pub returns-in-Err-Full-clause-answer : goal.returns-in-Err-Full-clause-answer
@@ -162,9 +162,6 @@ returns-in-Err-Full-clause-answer g c =
       room = omega (arith, admits.0, was.whole.stands.place, was.whole.stands.promised);
     }
 
-pub returns-in-Err-Full-clause-nexts : goal.returns-in-Err-Full-clause-nexts
-returns-in-Err-Full-clause-nexts g c = nexts_same _
-
 pub invariant_of-self-in-Spent-1 : goal.invariant_of-self-in-Spent-1
 invariant_of-self-in-Spent-1 g c =
     let was = c.args.self.now in
@@ -172,11 +169,8 @@ invariant_of-self-in-Spent-1 g c =
     (Err (Spent c.in-Err-Spent.taken)) c.in-Ok.ensures.cases (c.in-Err-Spent.is ∙ ap Err c.in-Err-Spent.field-0-is)
     c.admit.ensures in
     let same = stays was c.admit.new.self c.reserve.new.self admits.1 c.reserve.ensures.seen
-    (c.reserve.ensures.same was.registry.promised was.space) in
-    record { whole = same.whole; space = same.space; held = same.held }
-
-pub returns-in-Err-Spent-clause-nexts : goal.returns-in-Err-Spent-clause-nexts
-returns-in-Err-Spent-clause-nexts g c = nexts_same _
+    (c.reserve.ensures.same (entries_owed was.registry) was.space) in
+    record { whole = same.whole; space = same.space; held = same.held; profiles = was.profiles }
 
 pub invariant_of-self-in-Err-Memory : goal.invariant_of-self-in-Err-Memory
 invariant_of-self-in-Err-Memory g c =
@@ -184,8 +178,34 @@ invariant_of-self-in-Err-Memory g c =
     let admits = admits_same was.registry c.admit.new.self _ (arc_value c.args.info) _ (Err Memory)
     c.in-Ok.ensures.cases (c.in-Err-Memory.is ∙ ap Err c.in-Err-Memory.field-0-is) c.admit.ensures in
     let same = stays was c.admit.new.self c.reserve.new.self admits.2 c.reserve.ensures.seen
-    (c.reserve.ensures.same was.registry.promised was.space) in
-    record { whole = same.whole; space = same.space; held = same.held }
+    (c.reserve.ensures.same (entries_owed was.registry) was.space) in
+    record { whole = same.whole; space = same.space; held = same.held; profiles = was.profiles }
 
-pub returns-clause-nexts : goal.returns-clause-nexts
-returns-clause-nexts g c = nexts_same _
+pub returns-in_default-clause-rest : goal.returns-in_default-clause-rest
+returns-in_default-clause-rest g c = goes_on_alike _ _ _ _ _ (later_same _)
+
+pub returns-in_default-reserve-clause-rest : goal.returns-in_default-reserve-clause-rest
+returns-in_default-reserve-clause-rest g c = goes_on_alike _ _ _ _ _ (later_same _)
+
+pub returns-in-Ok-admit-clause-rest : goal.returns-in-Ok-admit-clause-rest
+returns-in-Ok-admit-clause-rest g c = goes_on_alike _ _ _ _ _ (later_same _)
+
+pub returns-in-Ok-admit-clause-reach : goal.returns-in-Ok-admit-clause-reach
+returns-in-Ok-admit-clause-reach g c =
+    let was = c.args.self.now in
+    let info = arc_value c.args.info in
+    let opened = c.in-Ok-admit.opened in
+    let admits = admits_same was.registry c.admit.new.self _ info _ (Ok opened) c.in-Ok.ensures.cases
+    c.in-Ok-admit.is c.admit.ensures in
+    reach_still was.nodes was.nodes was.registry c.admit.new.self (pins_of was) (pins_of was)
+    (with_trees (ever was.nodes.given) (history c.push.new.self))
+    (λ n key at. at) (λ p has still. told-admitted was.registry c.admit.new.self info (Ok opened) p.ids p.place admits)
+
+pub returns-in-Err-Full-clause-rest : goal.returns-in-Err-Full-clause-rest
+returns-in-Err-Full-clause-rest g c = goes_on_alike _ _ _ _ _ (later_same _)
+
+pub returns-in-Err-Spent-clause-rest : goal.returns-in-Err-Spent-clause-rest
+returns-in-Err-Spent-clause-rest g c = goes_on_alike _ _ _ _ _ (later_same _)
+
+pub returns-clause-rest : goal.returns-clause-rest
+returns-clause-rest g c = goes_on_alike _ _ _ _ _ (later_same _)

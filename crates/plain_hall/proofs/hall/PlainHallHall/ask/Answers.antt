@@ -7,22 +7,24 @@ use Rattle.hall_history.specs.declared.seat.PinView.{PinView}
 use Rattle.hall_history.proofs.HistoryMore.{opened_more}
 use Rattle.node_store.specs.Given.{ever}
 use Rattle.registry_core.specs.Asking.{AsksIn}
-use Rattle.registry_core.specs.Registry.{RegistryValue, kept_trace}
+use Rattle.registry_core.specs.Registry.{kept_trace}
 use Rattle.registry_core.specs.declared.answers.RegAsk.{RegAsk}
 use Rattle.registry_core.specs.declared.answers.RegAsk.TheVariants.{Pinned, Unknown}
-use Rattle.plain_hall.specs.KeptHistory.{history}
+use Rattle.hall_trait.proofs.Views.{later_same}
+use Rattle.plain_hall.specs.KeptHistory.{entries_owed, history}
 use Rattle.plain_hall.specs.PlainHall.{seen_by}
 use Rattle.plain_hall.specs.PlainSeat.{IsHeld, queries_of}
 use Rattle.plain_hall.specs.Whole.{IsSoundHall}
 use Rattle.plain_hall.specs.declared.kept_pin.KeptPin.{KeptPin}
 use Rattle.plain_hall.proofs.Calls.{asked_passes}
 use Rattle.plain_hall.proofs.Found.{held_more}
-use Rattle.plain_hall.proofs.Keeping.{nexts_same}
 use Rattle.plain_hall.proofs.LoadFacts.{last_place, told_length}
 use Rattle.plain_hall.proofs.PinFacts.{held_by, known_are_open, no_query, query_tracks, unknown_told}
 use Rattle.plain_hall.proofs.Steps.{makes}
 use Rattle.plain_hall.proofs.WholeAfter.{seen_more}
 use Rattle.plain_hall.proofs.WholeCalls.{whole_asked, whole_pinned}
+use Rattle.plain_hall.proofs.Owed.{owed-asked, owed-pinned}
+use Rattle.plain_hall.proofs.Views.{goes_on_alike}
 use Rattle.plain_hall.proofs.hall.PlainHallHall.ask.Goals as goal
 
 pub invariant_of-self : goal.invariant_of-self
@@ -42,14 +44,15 @@ invariant_of-self g c =
       whole = whole;
       space = omega (
         arith,
-        c.push_asked.ensures.space was.registry.promised was.space,
-        ap (λ (r : RegistryValue). r.promised) asks.3,
+        c.push_asked.ensures.space (entries_owed was.registry) was.space,
+        owed-pinned was.registry c.ask.new.self ids c.in-Pinned.place asks,
       );
       held = λ p same.
           let P : KeptPin → Type 0 = λ q. IsHeld es q in
           subst P (same_Some pin p same) (held_by was.nodes c.ask.new.self es pin [] whole
           (told_length was.nodes was.registry _ (history was.past) es Asked c.in-Pinned.place was.whole c.push_asked.ensures.seen
           asks.2));
+      profiles = was.profiles;
     }
 
 pub invariant_of-self-in-Unknown : goal.invariant_of-self-in-Unknown
@@ -64,10 +67,11 @@ invariant_of-self-in-Unknown g c =
           c.push_asked-in-Unknown.ensures.seen asks.4 asks.0 was.whole;
       space = omega (
         arith,
-        c.push_asked-in-Unknown.ensures.space was.registry.promised was.space,
-        ap (λ (r : RegistryValue). r.promised) asks.4,
+        c.push_asked-in-Unknown.ensures.space (entries_owed was.registry) was.space,
+        owed-asked was.registry c.ask.new.self asks.4,
       );
       held = held_more _ _ _ was.pin c.push_asked-in-Unknown.ensures.seen was.held;
+      profiles = was.profiles;
     }
 
 pub returns-in-Pinned-clause-answer : goal.returns-in-Pinned-clause-answer
@@ -96,9 +100,6 @@ returns-in-Pinned-clause-answer g c =
       room = omega (arith, asks.0, was.whole.stands.place, was.whole.stands.promised);
     }
 
-pub returns-in-Pinned-clause-nexts : goal.returns-in-Pinned-clause-nexts
-returns-in-Pinned-clause-nexts g c = nexts_same _
-
 pub returns-in-Unknown-clause-answer : goal.returns-in-Unknown-clause-answer
 returns-in-Unknown-clause-answer g c =
     let was = c.args.self.now in
@@ -112,12 +113,12 @@ returns-in-Unknown-clause-answer g c =
     opened_more (seen_by was) Asked ∙ append-nil _ in (
       record {
         entered = makes _ _ _ _ _ _ _ _ seen last;
-        unknown = unknown_told _ was.registry _ _ ids c.in-Unknown.id was.whole.stands seen asks.1;
         pins = refl;
         passes = asked_passes _ _ seen;
         stakes = refl;
         room = omega (arith, asks.0, was.whole.stands.place, was.whole.stands.promised);
       },
+      unknown_told _ was.registry _ _ ids c.in-Unknown.id was.whole.stands seen asks.1,
       omega (
         arith,
         asks.2,
@@ -127,8 +128,11 @@ returns-in-Unknown-clause-answer g c =
       ),
     )
 
-pub returns-in-Unknown-clause-nexts : goal.returns-in-Unknown-clause-nexts
-returns-in-Unknown-clause-nexts g c = nexts_same _
+pub returns-in-Pinned-clause-rest : goal.returns-in-Pinned-clause-rest
+returns-in-Pinned-clause-rest g c = goes_on_alike _ _ _ _ _ (later_same _)
 
-pub returns-in-Spent-clause-nexts : goal.returns-in-Spent-clause-nexts
-returns-in-Spent-clause-nexts g c = nexts_same _
+pub returns-in-Unknown-clause-rest : goal.returns-in-Unknown-clause-rest
+returns-in-Unknown-clause-rest g c = goes_on_alike _ _ _ _ _ (later_same _)
+
+pub returns-in-Spent-clause-rest : goal.returns-in-Spent-clause-rest
+returns-in-Spent-clause-rest g c = goes_on_alike _ _ _ _ _ (later_same _)

@@ -1,4 +1,4 @@
-use Rattle.std.proofs.Common.{◌≡◌, ◌-◌, ◌<◌, ℕ, [], ◌∷◌, ◌++◌, arith, ap, ap₂, ◌∙◌, subst, sym}
+use Rattle.std.proofs.Common.{◌≡◌, ◌<◌, ℕ, [], ◌∷◌, ◌++◌, arith, ap, ap₂, ◌∙◌, subst, sym}
 use Rattle.hall_history.specs.declared.asks.PassState.{PassState}
 use Rattle.hall_history.specs.declared.asks.PassState.TheVariants.{Straight}
 use Rattle.hall_trait.specs.Answers.{IsRootOf}
@@ -13,8 +13,9 @@ use Rattle.node_store.specs.Kept.{KeepsFor}
 use Rattle.node_store.specs.TreeUnder.{tree_under}
 use Rattle.registry_core.specs.Registry.{RegistryValue}
 use Rattle.registry_core.specs.Roots.{roots_kept}
-use Rattle.plain_hall.specs.KeptHistory.{history}
-use Rattle.plain_hall.specs.PlainHall.{seat_of, seen_by}
+use Rattle.registry_core.proofs.ToldCalls.{told-published}
+use Rattle.plain_hall.specs.KeptHistory.{entries_owed, history}
+use Rattle.plain_hall.specs.PlainHall.{pins_of, seat_of, seen_by}
 use Rattle.plain_hall.specs.Rooted.{stakes_under, tree_of_root, with_trees}
 use Rattle.plain_hall.specs.declared.root.Root.{Root}
 use Rattle.plain_hall.proofs.Calls.{pass_facts, next_is_count, published_left, load_entry}
@@ -23,8 +24,14 @@ use Rattle.plain_hall.proofs.Keeping.{nexts_stay}
 use Rattle.plain_hall.proofs.LoadFacts.{awaits_track, last_place, owes}
 use Rattle.plain_hall.proofs.Publishing.{root_of_tree, staked_stands}
 use Rattle.plain_hall.proofs.Steps.{told_tracks}
-use Rattle.plain_hall.proofs.WholeAfter.{seen_more}
+use Rattle.plain_hall.proofs.WholeAfter.{same_numbers, seen_more}
 use Rattle.plain_hall.proofs.WholeCalls.{whole_published}
+use Rattle.memo_rooms.specs.Rooms.{kept_under}
+use Rattle.registry_core.specs.Staying.{KeepsTold}
+use Rattle.plain_hall.proofs.Owed.{owed-published}
+use Rattle.plain_hall.proofs.ProfilesKept.{profiles_still}
+use Rattle.plain_hall.proofs.Reached.{reach_still}
+use Rattle.plain_hall.proofs.Views.{goes_on_alike}
 use Rattle.plain_hall.proofs.hall.PlainHallHall.publish.Goals as goal
 
 -- the track that the caller names is the one that the state has
@@ -75,7 +82,8 @@ invariant_of-self g c =
     subst (λ (t : Tree). KeepsFor nodes (stake c.args.root t
     ∷ stakes_under key_at (roots_kept was.registry.traces))) same
     (c.hand_over.ensures.kept _ (tree s) of_stream.staked was.whole.roots) in
-    let left = ap (λ (r : RegistryValue). r.promised) c.publish-place.ensures.rest in
+    let left = owed-published was.registry c.publish-place.new.self pass.id track c.args.start c.args.root owed
+    c.publish-place.ensures.rest in
     let within : track < tracks_of (seen_by was) pass.id = omega (
       arith,
       of_stream.fits.2,
@@ -87,12 +95,10 @@ invariant_of-self g c =
           (awaits_track _ _ _ _ pass.id track was.whole.stands was.whole.orderly facts.loading
           (next_is_count _ pass track facts c.in-Straight.is) within) fits (next_is_count _ pass track facts c.in-Straight.is)
           (subst (λ (t : Tree). Stands key_at c.args.root t) same stands) keeps was.whole;
-      space = omega (
-        arith,
-        c.push.ensures.space (was.registry.promised - 1) (omega (arith, was.space, owed)),
-        left,
-      );
+      space = c.push.ensures.space (entries_owed c.publish-place.new.self) (omega (arith, was.space, left));
       held = held_more _ _ _ was.pin c.push.ensures.seen was.held;
+      profiles = profiles_still was.nodes nodes (kept_under was.memos)
+          (same_numbers was.nodes nodes c.hand_over.ensures.numbers) was.profiles;
     }
 
 pub advance-requires : goal.advance-requires
@@ -131,5 +137,26 @@ returns-clause-answer g c track s next of_stream =
       stakes = c.hand_over.ensures.stakes (tree s) of_stream.staked;
     }
 
-pub returns-clause-nexts : goal.returns-clause-nexts
-returns-clause-nexts g c = nexts_stay _ _ c.hand_over.ensures.rooms
+pub returns-clause-rest : goal.returns-clause-rest
+returns-clause-rest g c = goes_on_alike _ _ _ _ _ (nexts_stay _ _ c.hand_over.ensures.rooms)
+
+pub returns-clause-reach : goal.returns-clause-reach
+returns-clause-reach g c =
+    let was = c.args.self.now in
+    let pass = c.args.pass.now in
+    let track = c.in-Straight.track in
+    let facts = pass_facts _ pass was.whole.orderly c.requires.has in
+    let fits = c.requires.root.3.fits in
+    let within : track < tracks_of (seen_by was) pass.id = omega (
+      arith,
+      fits.2,
+      told_tracks (info_of (seen_by was) pass.id) fits.0 fits.1,
+      same_track pass.state c.requires.root.0 track c.requires.root.2 c.in-Straight.is,
+    ) in
+    let awaits = awaits_track _ _ _ _ pass.id track was.whole.stands was.whole.orderly facts.loading
+    (next_is_count _ pass track facts c.in-Straight.is) within in
+    reach_still was.nodes c.hand_over.new.self was.registry c.publish-place.new.self (pins_of was) (pins_of was)
+    (with_trees (ever c.hand_over.new.self.given) (history c.push.new.self))
+    (same_numbers was.nodes c.hand_over.new.self c.hand_over.ensures.numbers) (λ p has still.
+    subst (λ (q : RegistryValue). KeepsTold was.registry q p.ids p.place) (sym c.publish-place.ensures.rest)
+    (told-published was.registry pass.id track c.args.start c.args.root p.ids p.place awaits))

@@ -1,12 +1,13 @@
-use Rattle.std.proofs.Common.{◌≡◌, ℕ, List, [], ◌∷◌, ap, ◌∙◌, subst, take}
+use Rattle.std.proofs.Common.{List, [], ◌∷◌, ap, ◌∙◌, subst, sym}
 use Rattle.hall_history.specs.declared.asks.AskIds.{AskIds}
 use Rattle.hall_trait.specs.Pin.{id_at, pin_view}
 use Rattle.list_lemmas.proofs.Options.{given_some}
 use Rattle.registry_core.specs.Registry.{kept_trace}
 use Rattle.registry_core.specs.UsedBy.{AreUsedBy}
-use Rattle.plain_hall.proofs.Keeping.{nexts_same}
-use Rattle.plain_hall.proofs.PinFacts.{ids_kept, pin_query}
-use Rattle.plain_hall.proofs.Publishing.{track_told}
+use Rattle.plain_hall.specs.PlainHall.{pins_of}
+use Rattle.plain_hall.proofs.PinFacts.{asked_at, ids_kept, pin_query}
+use Rattle.plain_hall.proofs.Publishing.{track_reached}
+use Rattle.plain_hall.proofs.Views.{keeps_alike}
 use Rattle.plain_hall.proofs.hall.PlainHallHall.published.Goals as goal
 
 pub returns-clause-answer : goal.returns-clause-answer
@@ -20,8 +21,8 @@ returns-clause-answer g c =
     let (t, kept) = given_some (kept_trace was.registry.traces id)
     (ids_kept was.registry pin.ids [] c.args.which used) in
     let told = c.published.ensures t (ap (kept_trace was.registry.traces) c.id.ensures ∙ kept) in
-    track_told was.nodes was.registry _ _ id pin.place c.args.track t c.published.result was.whole kept
-    (Rattle.std.proofs.Common.sym told)
+    track_reached was.nodes was.registry _ _ (pins_of was) (pin_view pin) id c.args.track t c.published.result
+    was.whole c.requires.has (asked_at pin.ids c.args.which) kept (sym told)
 
-pub returns-clause-nexts : goal.returns-clause-nexts
-returns-clause-nexts g c = nexts_same _
+pub returns-clause-rest : goal.returns-clause-rest
+returns-clause-rest g c = keeps_alike _ _ _

@@ -1,3 +1,4 @@
+use Rattle.hall_trait.proofs.Views.{later_then}
 use Rattle.std.proofs.Common.{◌≡◌, List, [], ◌++◌, ap, sym, ◌∙◌, subst, arith}
 use Rattle.std.specs.Prelude.{unwrap_or}
 use Rattle.hall_history.specs.declared.asks.AskIds.{AskIds}
@@ -10,14 +11,21 @@ use Rattle.registry_core.specs.Registry.{RegistryValue}
 use Rattle.registry_core.specs.Roots.{ExchangesRoots, roots_freed_by, roots_kept}
 use Rattle.registry_core.specs.UsedBy.{AreUsedBy}
 use Rattle.registry_core.specs.declared.answers.RegUnpin.{RegUnpin}
+use Rattle.memo_rooms.specs.Rooms.{kept_under}
 use Rattle.plain_hall.specs.KeptHistory.{history}
+use Rattle.plain_hall.specs.PlainHall.{pins_of}
 use Rattle.plain_hall.specs.Rooted.{stakes_under}
 use Rattle.plain_hall.specs.Whole.{IsSoundHall}
 use Rattle.hall_trait.specs.Pin.{pin_view}
-use Rattle.plain_hall.proofs.Keeping.{never_falls}
+use Rattle.plain_hall.specs.Rooted.{with_trees}
 use Rattle.plain_hall.proofs.PinFacts.{pin_query}
 use Rattle.plain_hall.proofs.RootStakes.{keeps_both}
 use Rattle.plain_hall.proofs.WholeCalls.{whole_unpinned}
+use Rattle.plain_hall.proofs.Owed.{owed-unpinned}
+use Rattle.plain_hall.proofs.ProfilesKept.{profiles_still}
+use Rattle.plain_hall.proofs.Reached.{reach_still}
+use Rattle.plain_hall.proofs.Views.{goes_on_alike}
+use Rattle.plain_hall.proofs.WholeAfter.{same_numbers}
 use Rattle.plain_hall.proofs.hall.PlainHallHall.unpin.Goals as goal
 
 pub unpin-freed-requires : goal.unpin-freed-requires
@@ -90,10 +98,27 @@ invariant_of-self g c =
           c.release_freed-2.ensures.store last
           (subst (λ (qs : List AskIds). IsSoundHall was.nodes was.registry (history was.past) qs)
           (pin_query was.pin (pin_view c.args.pin) c.requires) was.whole);
-      space = omega (arith, was.space, ap (λ (r : RegistryValue). r.promised) c.unpin-freed.ensures.rest);
+      space = omega (
+        arith,
+        was.space,
+        owed-unpinned was.registry c.unpin-freed.new.self ids c.unpin-freed.ensures.rest,
+      );
       held = λ pin none. absurd cc;
+      profiles = profiles_still was.nodes c.release_freed-2.new.nodes (kept_under was.memos)
+          (same_numbers was.nodes c.release_freed-2.new.nodes
+          (ap (λ (n : Given). ever n) (c.release_freed-2.ensures.given ∙ c.release_freed.ensures.given)))
+          was.profiles;
     }
 
-pub returns-clause-nexts : goal.returns-clause-nexts
-returns-clause-nexts g c =
-    never_falls _ _ _ c.release_freed.ensures.next c.release_freed-2.ensures.next
+pub returns-clause-rest : goal.returns-clause-rest
+returns-clause-rest g c =
+    goes_on_alike _ _ _ _ _ (later_then _ _ _ c.release_freed.ensures.next c.release_freed-2.ensures.next)
+
+pub returns-clause-reach : goal.returns-clause-reach
+returns-clause-reach g c =
+    let was = c.args.self.now in
+    reach_still was.nodes c.release_freed-2.new.nodes was.registry c.unpin-freed.new.self (pins_of was) []
+    (with_trees (ever c.release_freed-2.new.nodes.given) (history was.past))
+    (same_numbers was.nodes c.release_freed-2.new.nodes
+    (ap (λ (n : Given). ever n) (c.release_freed-2.ensures.given ∙ c.release_freed.ensures.given)))
+    (λ p has none. absurd (omega (arith, none.1)))

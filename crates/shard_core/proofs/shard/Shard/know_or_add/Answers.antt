@@ -41,15 +41,15 @@ returns-in-None c = record {
   same_room = refl;
 }
 
-pub enter-requires : goal.enter-requires
-enter-requires c = fresh c.self.inside.room c.self.inside.next c.self.inside.nodes _ c.self.invariant
+pub find_or_add-requires : goal.find_or_add-requires
+find_or_add-requires c = fresh c.self.inside.room c.self.inside.next c.self.inside.nodes _ c.self.invariant
     (ap (λ (x : ℕ). STORE_ROOMS * c.self.inside.next + x) c.from.ensures)
 
 -- where a key was found, the tables are as they were
 pub raise-requires-in-There : goal.raise-requires-in-There
 raise-requires-in-There c =
     let h = c.in-There.ensures in
-    slice_get_within c.enter.new.self c.in-There.place _
+    slice_get_within c.find_or_add.new.self c.in-There.place _
     (ap (λ (l : List (ℕ × Stored)). slice_get l c.in-There.place) h.0 ∙ h.3)
 
 pub invariant_of-self-in-There : goal.invariant_of-self-in-There
@@ -59,7 +59,7 @@ invariant_of-self-in-There c =
     let sound = subst (λ (l : List (ℕ × Stored)). IsSound (room_of c.self.inside.room c.self.inside.next l))
     (sym h.0)
     c.self.invariant in
-    (raised c.self.inside.room c.self.inside.next c.enter.new.self c.raise-in-There.new.nodes c.in-There.place
+    (raised c.self.inside.room c.self.inside.next c.find_or_add.new.self c.raise-in-There.new.nodes c.in-There.place
     h.1
     c.args.key h.2 c.raise-in-There.result sound c.raise-in-There.ensures.apart at
     (c.raise-in-There.ensures.full h.1 _ at) (c.raise-in-There.ensures.raised h.1 _ at)).1
@@ -71,7 +71,7 @@ returns-in-There c =
     let sound = subst (λ (l : List (ℕ × Stored)). IsSound (room_of c.self.inside.room c.self.inside.next l))
     (sym h.0)
     c.self.invariant in
-    let both = raised c.self.inside.room c.self.inside.next c.enter.new.self c.raise-in-There.new.nodes
+    let both = raised c.self.inside.room c.self.inside.next c.find_or_add.new.self c.raise-in-There.new.nodes
     c.in-There.place h.1 c.args.key h.2 c.raise-in-There.result sound c.raise-in-There.ensures.apart at
     (c.raise-in-There.ensures.full h.1 _ at) (c.raise-in-There.ensures.raised h.1 _ at) in
     record {
@@ -87,7 +87,7 @@ returns-in-There c =
 pub invariant_of-self-in-Added : goal.invariant_of-self-in-Added
 invariant_of-self-in-Added c =
     let h = c.in-Added.ensures in
-    (added c.self.inside.room c.self.inside.next c.self.inside.nodes c.enter.new.self _ c.args.key
+    (added c.self.inside.room c.self.inside.next c.self.inside.nodes c.find_or_add.new.self _ c.args.key
     c.self.invariant
     c.if-self-ge-MAX_NUMBERS.false (c.requires ∙ sym (ap (λ (r : Room). r.room) c.self.view_is))
     (ap (λ (x : ℕ). STORE_ROOMS * c.self.inside.next + x) c.from.ensures) h.0 h.1).1
@@ -95,14 +95,14 @@ invariant_of-self-in-Added c =
 pub returns-in-Added : goal.returns-in-Added
 returns-in-Added c =
     let h = c.in-Added.ensures in
-    let both = added c.self.inside.room c.self.inside.next c.self.inside.nodes c.enter.new.self _ c.args.key
+    let both = added c.self.inside.room c.self.inside.next c.self.inside.nodes c.find_or_add.new.self _ c.args.key
     c.self.invariant c.if-self-ge-MAX_NUMBERS.false
     (c.requires ∙ sym (ap (λ (r : Room). r.room) c.self.view_is))
     (ap (λ (x : ℕ). STORE_ROOMS * c.self.inside.next + x) c.from.ensures) h.0 h.1 in
     record {
       answer = subst (λ (r : Room). Interns r c.args.key
           (Ok (New (STORE_ROOMS * c.self.inside.next + c.from.result)))
-          (room_of c.self.inside.room (c.self.inside.next + 1) c.enter.new.self)) c.self.view_is both.0;
+          (room_of c.self.inside.room (c.self.inside.next + 1) c.find_or_add.new.self)) c.self.view_is both.0;
       sound = both.1;
       same_room = ap (λ (r : Room). r.room) c.self.view_is;
     }

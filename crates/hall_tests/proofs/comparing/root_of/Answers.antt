@@ -1,0 +1,13 @@
+use Rattle.std.proofs.Common.{Contains, subst, sym}
+use Rattle.hall_history.specs.Seat.{Seat}
+use Rattle.hall_trait.specs.Pin.{pin_view}
+use Rattle.plain_hall.specs.PlainHall.{reached_in, seat_of}
+use Rattle.hall_tests.proofs.SamplePins.{sees_still}
+use Rattle.hall_tests.proofs.comparing.root_of.Goals as goal
+
+pub returns-clause-still : goal.returns-clause-still
+returns-clause-still g c =
+    let pin = pin_view c.args.pin.now in
+    let has = subst (λ (s : Seat). Contains s.pins pin) (sym c.published.ensures.rest.seat) c.requires.has in
+    sees_still (seat_of c.published.new.self) (reached_in c.args.hall.now) (reached_in c.published.new.self) pin
+    c.published.ensures.reach has

@@ -1,0 +1,10 @@
+use Rattle.hall_trait.specs.Reach.{FromStake}
+use Rattle.node_key.specs.Examples.{tenth}
+use Rattle.node_key.specs.Stakes.{stake}
+use Rattle.hall_tests.proofs.SampleStakes.{has_the_stake}
+use Rattle.hall_tests.proofs.looking.look.Goals as goal
+
+pub memo_look-requires : goal.memo_look-requires
+memo_look-requires g c =
+    let x = stake c.args.f tenth in
+    (FromStake x, tenth, g.met.H.Hall.staked c.args.hall.now x (has_the_stake _ x c.requires))

@@ -1,0 +1,2 @@
+pub mod SeatWork
+pub mod Sees

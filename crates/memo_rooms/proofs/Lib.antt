@@ -1,0 +1,2 @@
+mod KeptRooms
+pub mod WholeKept

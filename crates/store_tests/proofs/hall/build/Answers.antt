@@ -1,6 +1,0 @@
-use Rattle.store_tests.proofs.SampleStakes.{built}
-use Rattle.store_tests.proofs.hall.build.Goals as goal
-
-pub returns : goal.returns
-returns g c = built _ _ _ _ _ _ _ _ _ c.stake_f-f.ensures c.stake_f-again.ensures c.stake_main-main.ensures
-    c.stake_track-root.ensures

@@ -1,8 +1,0 @@
-use Rattle.store_tests.proofs.SampleLoads.{adds_has, covers_at_once}
-use Rattle.store_tests.proofs.hall.open_and_seal.Goals as goal
-
-pub seal-requires-clause-has : goal.seal-requires-clause-has
-seal-requires-clause-has g c = adds_has _ _ _ c.in_ok-pass.ensures.answer.passes
-
-pub seal-requires-clause-covers : goal.seal-requires-clause-covers
-seal-requires-clause-covers g c = covers_at_once _ _ _ _ _ c.in_ok-pass.ensures.answer

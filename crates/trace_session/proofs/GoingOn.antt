@@ -1,0 +1,98 @@
+-- What a hall tells beside the seat goes on while requests are served.
+use Rattle.std.proofs.Common.{◌≡◌, ℕ, List, [], ◌∷◌, ◌++◌, Option, None, Some, Ok, Err, option_map}
+use Rattle.std.proofs.Common.{option_to_list, refl, sym, ap, ◌∙◌, append_assoc, append-nil}
+use Rattle.hall_trait.specs.declared.answers.HallFault.{HallFault}
+use Rattle.hall_trait.specs.declared.answers.HallFault.TheVariants as fault
+use Rattle.hall_trait.specs.View.{Account, GoesOn, HallView, with_account, with_used_up, with_work}
+use Rattle.hall_trait.proofs.Views.{nexts_same, nexts_then}
+use Rattle.builders.specs.Reads.{OnlyReads}
+use Rattle.builders.specs.View.{GoesOnBuilding}
+use Rattle.trace_session.specs.Load.{refusal_of}
+use Rattle.trace_session.specs.Served.{spent_number}
+use Rattle.trace_session.specs.Serving.{GoesOnServing, with_numbers}
+
+-- no number, and numbers behind others
+numbers_none : (o : Option (List ℕ)) → o ≡ option_map (λ (was : List ℕ). was ++ []) o
+numbers_none None = refl
+numbers_none (Some l) = ap (λ (is : List ℕ). Some is) (sym (append-nil l))
+
+numbers_then : (o : Option (List ℕ)) (ns ms : List ℕ)
+    → option_map (λ (was : List ℕ). was ++ ms) (option_map (λ (was : List ℕ). was ++ ns) o)
+    ≡ option_map (λ (was : List ℕ). was ++ (ns ++ ms)) o
+numbers_then None ns ms = refl
+numbers_then (Some l) ns ms = ap (λ (is : List ℕ). Some is) (append_assoc l ns ms)
+
+-- the account with these numbers, and with the work and the reads of a later one
+abbrev told_by : Account → Account → Option (List ℕ) → Account
+told_by a later o = record a { used_up = o; work = later.work; reads = later.reads }
+
+-- nothing happens
+pub serving_same : (v : HallView) → GoesOnServing [] v v
+serving_same v = record {
+  alone = refl;
+  account = ap (λ (o : Option (List ℕ)). told_by v.account v.account o) (numbers_none v.account.used_up);
+  rooms = nexts_same v.rooms;
+  memo = refl;
+}
+
+-- two moments in a row
+pub serving_then : (a b c : HallView) (ns ms : List ℕ) → GoesOnServing ns a b → GoesOnServing ms b c
+    → GoesOnServing (ns ++ ms) a c
+serving_then a b c ns ms p q = record {
+  alone = q.alone ∙ p.alone;
+  account = q.account
+      ∙ ap (λ (x : Account). told_by x c.account (with_numbers ms x).used_up) p.account
+      ∙ ap (λ (o : Option (List ℕ)). told_by a.account c.account o) (numbers_then a.account.used_up ns ms);
+  rooms = nexts_then a.rooms b.rooms c.rooms p.rooms q.rooms;
+  memo = q.memo ∙ p.memo;
+}
+
+-- an account that differs in the numbers, the work and the reads
+serving_by : (a b : HallView) (ns : List ℕ) (x : Account) → GoesOn (with_account (λ y. x) a) b
+    → told_by x b.account x.used_up ≡ told_by a.account b.account (with_numbers ns a.account).used_up
+    → GoesOnServing ns a b
+serving_by a b ns x p is = record {
+  alone = p.alone;
+  account = ap (λ (y : Account). told_by y b.account y.used_up) p.account ∙ is;
+  rooms = p.rooms;
+  memo = p.memo;
+}
+
+-- the account stays
+pub serving_on : (a b : HallView) → GoesOn a b → GoesOnServing [] a b
+serving_on a b p = serving_by a b [] a.account p
+    (ap (λ (o : Option (List ℕ)). told_by a.account b.account o) (numbers_none a.account.used_up))
+
+-- work was done
+pub serving_worked : (a b : HallView) (n : ℕ) → GoesOn (with_account (with_work n) a) b → GoesOnServing [] a b
+serving_worked a b n p = serving_by a b [] (with_work n a.account) p
+    (ap (λ (o : Option (List ℕ)). told_by a.account b.account o) (numbers_none a.account.used_up))
+
+-- a number was told as used up
+pub serving_told : (a b : HallView) (n : ℕ) → GoesOn (with_account (with_used_up n) a) b
+    → GoesOnServing (n ∷ []) a b
+serving_told a b n p = serving_by a b (n ∷ []) (with_used_up n a.account) p refl
+
+-- nodes were read
+pub serving_read : (a b : HallView) → OnlyReads a b → GoesOnServing [] a b
+serving_read a b p = serving_by a b [] (record a.account { reads = b.account.reads }) p.rest
+    (ap (λ (o : Option (List ℕ)). told_by a.account b.account o) (numbers_none a.account.used_up))
+
+-- a tree was built, or it wasn't
+pub serving_built : {X : Type 0} (a b : HallView) (x : X) → GoesOnBuilding (Ok x) a b → GoesOnServing [] a b
+serving_built a b x p = serving_by a b [] (record a.account { work = b.account.work }) p
+    (ap (λ (o : Option (List ℕ)). told_by a.account b.account o) (numbers_none a.account.used_up))
+
+pub serving_refused : (a b : HallView) (e : HallFault) → GoesOnBuilding {X = ℕ} (Err e) a b
+    → GoesOnServing (option_to_list (spent_number (refusal_of e))) a b
+serving_refused a b fault.Memory p = serving_by a b [] (record a.account { work = b.account.work }) p
+    (ap (λ (o : Option (List ℕ)). told_by a.account b.account o) (numbers_none a.account.used_up))
+serving_refused a b (fault.Spent n) p =
+    serving_by a b (n ∷ []) (record (with_used_up n a.account) { work = b.account.work }) p refl
+serving_refused a b (fault.Full place) p = absurd p
+
+-- whether the seat is alone is the same behind it
+pub refused_alone : (a b : HallView) (e : HallFault) → GoesOnBuilding {X = ℕ} (Err e) a b → b.alone ≡ a.alone
+refused_alone a b fault.Memory p = p.alone
+refused_alone a b (fault.Spent n) p = p.alone
+refused_alone a b (fault.Full place) p = absurd p
