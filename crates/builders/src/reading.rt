@@ -1,6 +1,7 @@
 ghost use Rattle.std.specs.Prelude.{◌≡◌, ◌+◌, ◌≤◌, ◌<◌, ◌==◌, ◌++◌, ◌∷◌, [], ℕ, if◌then◌else◌, take, Some};
 ghost use Rattle.std.specs.Prelude.{Contains, IfOk, IfSome, OnOk};
-ghost use Rattle.hall_trait.specs.Pin.{first_id, pin_view};
+ghost use Rattle.hall_trait.specs.Pin.{pin_view};
+ghost use Rattle.hall_history.specs.Asks.{first_id};
 ghost use Rattle.hall_trait.specs.Reach.{KeepsReach, Source};
 ghost use Rattle.node_key.specs.Events.{events};
 ghost use Rattle.hall_history.specs.History.{FitsTrack, stream_of, tracks_of};

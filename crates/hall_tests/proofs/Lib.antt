@@ -1,6 +1,7 @@
 mod CountingWork
 mod NineCalls
 mod SampleLoads
+mod SampleNesting
 mod SamplePins
 mod SampleProfiles
 mod SampleStakes

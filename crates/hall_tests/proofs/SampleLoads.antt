@@ -54,6 +54,16 @@ none_left none one now rest x y empty adds replaces removes =
       stead_length now rest y [] removes,
     ))
 
+-- an only item for which another stands leaves that one
+pub replaced_alone : {X : Type 0} (old new : List X) (x y z : X) → old ≡ z ∷ [] → Replaces old new x y
+    → new ≡ y ∷ []
+replaced_alone old new x y z alone r =
+    let lengths : 1 ≡ length r.front + (length r.back + 1) =
+    sym (ap length alone) ∙ ap length r.was ∙ length-append r.front (x ∷ r.back) ∙ omega arith in
+    let front : r.front ≡ [] = nil_from_length r.front (omega (arith, lengths)) in
+    let back : r.back ≡ [] = nil_from_length r.back (omega (arith, lengths)) in
+    r.now ∙ ap (λ f. f ++ (y ∷ r.back)) front ∙ ap (λ b. y ∷ b) back
+
 pub none_left_at_once : {X : Type 0} (none one rest : List X) (x : X) → none ≡ [] → Adds none one x
     → Removes one rest x → rest ≡ []
 none_left_at_once none one rest x empty adds removes =
@@ -66,11 +76,12 @@ none_left_at_once none one rest x empty adds removes =
     ))
 
 -- a publication leaves the number of tracks
-pub tracks_stay : (old new : List Entry) (id track : ℕ) (s : PublishedTree) (info : TraceInfo) → new ≡ old
-    ++ Published id track s ∷ [] → info_of old id ≡ Some info → tracks_of new id ≡ length info.names.tracks
-tracks_stay old new id track s info seen told =
+pub tracks_stay : (old new : List Entry) (id track other : ℕ) (s : PublishedTree)
+    → new ≡ old ++ Published id track s ∷ [] → tracks_of new other ≡ tracks_of old other
+tracks_stay old new id track other s seen =
     ap (λ o. option_map_or (λ (i : TraceInfo). length i.names.tracks) o 0)
-    (ap (λ es. info_of es id) seen ∙ info_more old (Published id track s) id ∙ or_None _ ∙ told)
+    (ap (λ es. info_of es other) seen ∙ info_more old (Published id track s) other
+    ∙ or_None (info_of old other))
 
 -- a pass that was just given covers its trace
 pub covers_at_once : (alone : _) (old new : Seat) (info : TraceInfo) (pass : LoadPass)

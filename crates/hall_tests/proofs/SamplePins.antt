@@ -11,7 +11,7 @@ use Rattle.hall_history.specs.declared.published.Published.TheVariants.{Root}
 use Rattle.hall_trait.specs.Answers.{PinsTraces}
 use Rattle.hall_history.specs.declared.seat.PinView.{PinView}
 use Rattle.hall_trait.specs.Nodes.{ReadsNode, TellsTrack}
-use Rattle.hall_trait.specs.Pin.{first_id, second_id}
+use Rattle.hall_history.specs.Asks.{first_id, second_id}
 use Rattle.hall_trait.specs.Reach.{FromPin, KeepsReach, Reaching}
 use Rattle.hall_trait.specs.declared.pin.Pin.{Pin}
 use Rattle.node_key.specs.Branches.{branches}

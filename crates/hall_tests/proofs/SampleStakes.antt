@@ -45,6 +45,19 @@ pub once : (a b c : Seat) (x : Stake) → a.stakes ≡ [] → ExchangesStakes a 
     → ExchangesStakes b c (x ∷ []) [] → c.stakes ≡ []
 once a b c x none one two = no_stakes c.stakes (λ z. omega (arith, one.stakes z, two.stakes z, ap (times z) none))
 
+-- a stake that was given is exchanged for one on what is over it
+pub climbs : (a b c : Seat) (x y : Stake) → ExchangesStakes a b [] (x ∷ [])
+    → ExchangesStakes b c (x ∷ []) (y ∷ []) → ExchangesStakes a c [] (y ∷ [])
+climbs a b c x y one two = record {
+  stakes = λ z. omega (arith, one.stakes z, two.stakes z);
+  entries = record {
+    seen = two.entries.seen ∙ one.entries.seen;
+    places = two.entries.places ∙ one.entries.places;
+  };
+  pins = two.pins ∙ one.pins;
+  passes = two.passes ∙ one.passes;
+}
+
 -- a seat has two stakes more
 pub record HasTwoMore (old new : Seat) (m b : Stake) : Type 0 where
   pub two : (z : Stake) → times z new.stakes ≡ times z old.stakes + times z (m ∷ []) + times z (b ∷ [])
@@ -89,19 +102,12 @@ module _ (s0 s4 s5 s6 : Seat) (m b t : Stake)
 pub built : (s0 s1 s2 s3 s4 : Seat) (f a m r : Stake) → ExchangesStakes s0 s1 [] (f ∷ [])
     → ExchangesStakes s1 s2 [] (a ∷ []) → ExchangesStakes s2 s3 (f ∷ a ∷ []) (m ∷ [])
     → ExchangesStakes s3 s4 (m ∷ []) (r ∷ []) → ExchangesStakes s0 s4 [] (r ∷ [])
-built s0 s1 s2 s3 s4 f a m r one two three four = record {
-  stakes = λ z. omega (
-    arith,
-    one.stakes z,
-    two.stakes z,
-    three.stakes z,
-    four.stakes z,
-    times_first z f (a ∷ []),
-  );
+built s0 s1 s2 s3 s4 f a m r one two three four = climbs s0 s3 s4 m r (record {
+  stakes = λ z. omega (arith, one.stakes z, two.stakes z, three.stakes z, times_first z f (a ∷ []));
   entries = record {
-    seen = four.entries.seen ∙ three.entries.seen ∙ two.entries.seen ∙ one.entries.seen;
-    places = four.entries.places ∙ three.entries.places ∙ two.entries.places ∙ one.entries.places;
+    seen = three.entries.seen ∙ two.entries.seen ∙ one.entries.seen;
+    places = three.entries.places ∙ two.entries.places ∙ one.entries.places;
   };
-  pins = four.pins ∙ three.pins ∙ two.pins ∙ one.pins;
-  passes = four.passes ∙ three.passes ∙ two.passes ∙ one.passes;
-}
+  pins = three.pins ∙ two.pins ∙ one.pins;
+  passes = three.passes ∙ two.passes ∙ one.passes;
+}) four

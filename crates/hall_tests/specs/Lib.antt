@@ -1,2 +1,4 @@
+pub mod Nested
+pub mod OneTrack
 pub mod SeatWork
 pub mod Sees

@@ -1,13 +1,14 @@
-ghost use Rattle.std.specs.Prelude.{◌≡◌, ℕ, ◌<◌, Contains, IfOk, OnOk, take};
+ghost use Rattle.std.specs.Prelude.{◌≡◌, ℕ, ◌<◌, Contains, IfOk, take};
 ghost use Rattle.std.specs.Arc.{arc_value};
 ghost use Rattle.trace_base.specs.Info.{IsLegalInfo};
 ghost use Rattle.hall_history.specs.History.{tracks_of};
 ghost use Rattle.hall_history.specs.Seat.{IsAtRest};
 ghost use Rattle.hall_tests.specs.Sees.{Sees};
-ghost use Rattle.hall_trait.specs.Pin.{id_at, pin_view};
+ghost use Rattle.hall_trait.specs.Pin.{pin_view};
+ghost use Rattle.hall_history.specs.Asks.{id_at};
 ghost use Rattle.plain_hall.specs.PlainHall.{reached_in, seat_of};
 
-use crate::samples::{info_of, load, no_names, open_and_seal, push_name, see_pin};
+use crate::samples::{info_of, load, load_lone, no_names, open_and_seal, push_name, see_pin};
 use hall_history::{AskIds, Published};
 use hall_trait::{AskAnswer, Hall, Pin};
 use plain_hall::PlainHall;
@@ -17,17 +18,24 @@ use std::sync::{Arc, Wait};
 use std::test::Fail;
 use trace_base::{Memory, TraceInfo};
 
-// The root of the first track of a pinned trace.
-fn root_of<R: Abort + Wait>(hall: &mut PlainHall, rt: &R, pin: &Pin, which: u8) -> u64
+/// The root of a track of a pinned trace.
+pub(crate) fn root_of<R: Abort + Wait>(
+    hall: &mut PlainHall,
+    rt: &R,
+    pin: &Pin,
+    which: u8,
+    track: u32,
+) -> u64
     requires has { Contains (seat_of hall.old).pins (pin_view pin.now) }
     requires which { which < 2 }
-    requires within { 0 < tracks_of (take pin.now.place (seat_of hall.old).seen) (id_at pin.now.ids which) }
+    requires within { track < tracks_of (take pin.now.place (seat_of hall.old).seen)
+        (id_at pin.now.ids which) }
     ensures seat { seat_of hall.new ≡ seat_of hall.old }
     ensures root { Sees (reached_in hall.new) (pin_view pin.now) result }
     ensures still { (n : ℕ) → Sees (reached_in hall.old) (pin_view pin.now) n
         → Sees (reached_in hall.new) (pin_view pin.now) n }
 {
-    match hall.published(rt, pin, which, 0) {
+    match hall.published(rt, pin, which, track) {
         Published::Root { start: _, root } => root,
         Published::NotYet => panic!(rt; "not yet"),
     }
@@ -49,8 +57,15 @@ fn first_kid<R: Abort + Wait>(hall: &mut PlainHall, rt: &R, pin: &Pin, n: u64) -
     key.kids[0].node
 }
 
-// Whether the trees of two numbers are the same.
-fn same_tells<R: Abort + Wait>(hall: &mut PlainHall, rt: &R, pin: &Pin, a: u64, b: u64, told: bool)
+/// Whether the trees of two numbers are the same.
+pub(crate) fn same_tells<R: Abort + Wait>(
+    hall: &mut PlainHall,
+    rt: &R,
+    pin: &Pin,
+    a: u64,
+    b: u64,
+    told: bool,
+)
     requires has { Contains (seat_of hall.old).pins (pin_view pin.now) }
     requires first { Sees (reached_in hall.old) (pin_view pin.now) a }
     requires second { Sees (reached_in hall.old) (pin_view pin.now) b }
@@ -76,22 +91,40 @@ fn compare_below<R: Abort + Wait>(hall: &mut PlainHall, rt: &R, pin: &Pin, root:
     same_tells(hall, rt, pin, f, f, true);
 }
 
-// The tracks of two traces have the same tree, which has one number.
-fn compare_tracks<R: Abort + Wait>(hall: &mut PlainHall, rt: &R)
+// A pin of two traces, and the roots of their first tracks.
+struct PinnedRoots {
+    pin: Pin,
+    root: u64,
+    other: u64,
+}
+
+// Pins the traces 1 and 2, each of which has one track.
+fn pin_roots<R: Abort + Wait>(hall: &mut PlainHall, rt: &R) -> PinnedRoots
     requires { IsAtRest (seat_of hall.old) }
+    ensures has { Contains (seat_of hall.new).pins (pin_view result.pin) }
+    ensures root { Sees (reached_in hall.new) (pin_view result.pin) result.root }
+    ensures other { Sees (reached_in hall.new) (pin_view result.pin) result.other }
 {
     match hall.ask(rt, AskIds::Two(1, 2)) {
         AskAnswer::Pinned(pin) => {
             see_pin(rt, &pin, (1, 2), 7);
-            let root = root_of(hall, rt, &pin, 0);
-            let other = root_of(hall, rt, &pin, 1);
-            assert_eq!(rt; (root, other), (4, 4));
-            same_tells(hall, rt, &pin, root, other, true);
-            compare_below(hall, rt, &pin, root);
-            hall.unpin(rt, pin);
+            let root = root_of(hall, rt, &pin, 0, 0);
+            let other = root_of(hall, rt, &pin, 1, 0);
+            PinnedRoots { pin, root, other }
         }
         _ => panic!(rt; "not pinned"),
     }
+}
+
+// The tracks of two traces have the same tree, which has one number.
+fn compare_tracks<R: Abort + Wait>(hall: &mut PlainHall, rt: &R)
+    requires { IsAtRest (seat_of hall.old) }
+{
+    let PinnedRoots { pin, root, other } = pin_roots(hall, rt);
+    assert_eq!(rt; (root, other), (4, 4));
+    same_tells(hall, rt, &pin, root, other, true);
+    compare_below(hall, rt, &pin, root);
+    hall.unpin(rt, pin);
 }
 
 // Two traces of the same tree are loaded, and their trees compared.
@@ -112,6 +145,64 @@ fn load_and_compare<R: Abort + Wait>(
 fn equal_trees_are_the_same(rt: HostRuntime) -> Result<(), Fail> {
     let mut hall = PlainHall::new(rt.alloc())?;
     load_and_compare(&mut hall, &rt, rt.alloc())
+}
+
+// The tree of this number lasts half a second.
+fn lasts_half<R: Abort + Wait>(hall: &mut PlainHall, rt: &R, pin: &Pin, n: u64)
+    requires has { Contains (seat_of hall.old).pins (pin_view pin.now) }
+    requires seen { Sees (reached_in hall.old) (pin_view pin.now) n }
+    ensures seat { seat_of hall.new ≡ seat_of hall.old }
+    ensures still { (m : ℕ) → Sees (reached_in hall.old) (pin_view pin.now) m
+        → Sees (reached_in hall.new) (pin_view pin.now) m }
+{
+    assert_eq!(rt; hall.read(rt, n).dur, 500_000_000);
+}
+
+// The trees of two numbers last half a second each, and aren't the same.
+fn compare_unlike<R: Abort + Wait>(hall: &mut PlainHall, rt: &R, pin: &Pin, a: u64, b: u64)
+    requires has { Contains (seat_of hall.old).pins (pin_view pin.now) }
+    requires first { Sees (reached_in hall.old) (pin_view pin.now) a }
+    requires second { Sees (reached_in hall.old) (pin_view pin.now) b }
+    ensures seat { seat_of hall.new ≡ seat_of hall.old }
+    ensures still { (m : ℕ) → Sees (reached_in hall.old) (pin_view pin.now) m
+        → Sees (reached_in hall.new) (pin_view pin.now) m }
+{
+    lasts_half(hall, rt, pin, a);
+    lasts_half(hall, rt, pin, b);
+    same_tells(hall, rt, pin, a, b, false);
+    same_tells(hall, rt, pin, b, a, false);
+    same_tells(hall, rt, pin, a, a, true);
+    same_tells(hall, rt, pin, b, b, true);
+}
+
+// Two tracks of one duration, and their mains, are different trees.
+fn compare_durations<R: Abort + Wait>(hall: &mut PlainHall, rt: &R)
+    requires { IsAtRest (seat_of hall.old) }
+{
+    let PinnedRoots { pin, root, other } = pin_roots(hall, rt);
+    assert_eq!(rt; (root, other), (4, 28));
+    compare_unlike(hall, rt, &pin, root, other);
+    let main = first_kid(hall, rt, &pin, root);
+    let lone = first_kid(hall, rt, &pin, other);
+    assert_eq!(rt; (main, lone), (12, 7));
+    compare_unlike(hall, rt, &pin, main, lone);
+    hall.unpin(rt, pin);
+}
+
+// Two traces of different trees that last as long are loaded, and their trees compared.
+fn load_unlike<R: Abort + Wait>(hall: &mut PlainHall, rt: &R, alloc: Global) -> Result<(), Fail>
+    requires { IsAtRest (seat_of hall.old) }
+{
+    load(hall, rt, alloc, 1, (1, 2, 3), true)?;
+    load_lone(hall, rt, alloc, 2, (4, 5, 6))?;
+    compare_durations(hall, rt);
+    Ok(())
+}
+
+#[test]
+fn different_trees_of_one_duration_are_not_the_same(rt: HostRuntime) -> Result<(), Fail> {
+    let mut hall = PlainHall::new(rt.alloc())?;
+    load_unlike(&mut hall, &rt, rt.alloc())
 }
 
 // A trace without tracks whose functions are main and this one.

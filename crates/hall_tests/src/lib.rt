@@ -1,5 +1,5 @@
-//! Tests of the hall with one owner: its loads and questions, traces that are closed, listed and compared, profiles
-//! that are filled in and found, its faults, and the work of building a track.
+//! Tests of the hall with one owner: its loads and questions, traces that are closed, listed and compared,
+//! profiles that are filled in and found, its faults, and the work of building a track.
 #![tactic(auto)]
 
 #[cfg(test)]
@@ -15,8 +15,12 @@ mod listing;
 #[cfg(test)]
 mod looking;
 #[cfg(test)]
+mod nesting;
+#[cfg(test)]
 mod samples;
 #[cfg(test)]
 mod told_work;
+#[cfg(test)]
+mod twins;
 #[cfg(test)]
 mod work;

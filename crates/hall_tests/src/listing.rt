@@ -1,21 +1,17 @@
-ghost use Rattle.std.specs.Prelude.{true};
-ghost use Rattle.std.specs.Arc.{arc_value};
-ghost use Rattle.trace_base.specs.Info.{IsLegalInfo};
 ghost use Rattle.hall_history.specs.History.{Asked};
 ghost use Rattle.hall_history.specs.Seat.{IsAtRest};
 ghost use Rattle.hall_trait.specs.Answers.{MakesOwnEntry};
 ghost use Rattle.plain_hall.specs.PlainHall.{seat_of};
 
-use crate::samples::{bare, close_tells, load, one_track, open_and_seal};
+use crate::samples::{close_tells, load, one_track};
 use hall_history::ListRow;
 use hall_trait::{CloseAnswer, Hall, HallFault};
 use plain_hall::PlainHall;
 use std::alloc::Global;
 use std::process::Abort;
-use std::sync::{Arc, Wait};
+use std::sync::Wait;
 use std::test::Fail;
 use test_halls::RefusingHall;
-use trace_base::TraceInfo;
 
 /// The row of the trace 1, once its one track is published and it is sealed.
 const SEALED: ListRow = ListRow {
@@ -34,8 +30,9 @@ const LOADING: ListRow = ListRow {
 };
 
 // The rows are these, as of this place.
-fn list_tells<R: Abort + Wait>(hall: &mut PlainHall, rt: &R, place: u64, rows: &[ListRow])
-    ensures { MakesOwnEntry true (seat_of hall.old) (seat_of hall.new) Asked place }
+fn list_tells<R: Abort + Wait, H: Hall>(hall: &mut H, rt: &R, place: u64, rows: &[ListRow])
+    ensures { MakesOwnEntry (H.view hall.old).alone (H.view hall.old).seat (H.view hall.new).seat Asked
+        place }
 {
     match hall.list(rt) {
         Ok(listing) => {
@@ -69,20 +66,38 @@ fn open_and_loading_traces_are_listed(rt: HostRuntime) -> Result<(), Fail> {
 }
 
 // Without memory for a listing, all stays as it was: the next one gets the place that this one didn't.
-fn list_in_vain<R: Abort + Wait, H: Hall>(hall: &mut H, rt: &R) {
+fn list_in_vain<R: Abort + Wait, H: Hall>(hall: &mut H, rt: &R, place: u64, rows: &[ListRow])
+    ensures { MakesOwnEntry (H.view hall.old).alone (H.view hall.old).seat (H.view hall.new).seat Asked
+        place }
+{
     match hall.list(rt) {
         Ok(_) => panic!(rt; "listed"),
         Err(fault) => assert_eq!(rt; fault, HallFault::Memory),
     }
-    match hall.list(rt) {
-        Ok(listing) => assert_eq!(rt; (listing.place, listing.rows.len()), (1, 0)),
-        Err(_) => panic!(rt; "refused"),
-    }
+    list_tells(hall, rt, place, rows);
 }
 
 #[test]
 fn a_listing_without_memory_changes_nothing(rt: HostRuntime) -> Result<(), Fail> {
     let mut hall = RefusingHall::over(PlainHall::new(rt.alloc())?, 0);
-    list_in_vain(&mut hall, &rt);
+    list_in_vain(&mut hall, &rt, 1, &[]);
     Ok(())
+}
+
+// An open trace and a loading one, of which the first listing finds no memory.
+fn list_open_in_vain<R: Abort + Wait>(hall: PlainHall, rt: &R, alloc: Global) -> Result<(), Fail>
+    requires { IsAtRest (seat_of hall) }
+{
+    let mut hall = hall;
+    load(&mut hall, rt, alloc, 1, (1, 2, 3), true)?;
+    let pass = hall.admit(rt, one_track(alloc)?)?;
+    let mut refusing = RefusingHall::over(hall, 0);
+    list_in_vain(&mut refusing, rt, 5, &[SEALED, LOADING]);
+    assert_eq!(rt; refusing.abandon(rt, pass), 6);
+    Ok(())
+}
+
+#[test]
+fn a_listing_of_open_traces_without_memory_changes_nothing(rt: HostRuntime) -> Result<(), Fail> {
+    list_open_in_vain(PlainHall::new(rt.alloc())?, &rt, rt.alloc())
 }

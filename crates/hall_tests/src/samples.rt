@@ -1,37 +1,54 @@
 //! Traces, and calls of a hall, that several modules use.
-ghost use Rattle.std.specs.Prelude.{◌≡◌, ◌<◌, ◌++◌, [], ◌∷◌, Contains, IfOk, OnOk, codes, length, take, true};
+ghost use Rattle.std.specs.Prelude.{◌≡◌, ◌<◌, ◌++◌, [], ◌∷◌, Contains, IfOk, List, OnOk, codes, take, true};
 ghost use Rattle.std.specs.Arc.{arc_value};
 ghost use Rattle.trace_base.specs.Info.{IsLegalInfo};
 ghost use Rattle.node_key.specs.Examples.{half, tenth, track_of_half};
 ghost use Rattle.hall_history.specs.History.{tracks_of};
 ghost use Rattle.hall_history.specs.Seat.{ExchangesStakes, IsAtRest};
-ghost use Rattle.node_key.specs.Stakes.{HasStakes, stake};
+ghost use Rattle.hall_tests.specs.OneTrack.{HasLoadAlone, HasOneTrack, OpensOneTrack};
+ghost use Rattle.node_key.specs.Stakes.{HasStakes, IsOverStakes, stake};
+ghost use Rattle.node_key.specs.Tree.{Tree};
+ghost use Rattle.node_key.specs.declared.stake.Stake.{Stake};
+ghost use Rattle.test_keys.specs.Examples.{track_of_lone_main};
 ghost use Rattle.hall_trait.specs.Answers.{Closes};
-ghost use Rattle.hall_trait.specs.Pin.{first_id, pin_view};
+ghost use Rattle.hall_trait.specs.Pin.{pin_view};
+ghost use Rattle.hall_history.specs.Asks.{first_id};
 ghost use Rattle.plain_hall.specs.PlainHall.{seat_of};
 
 use hall_history::{Left, PassState, Published};
-use hall_trait::{CloseAnswer, Hall, Pin};
+use hall_trait::{CloseAnswer, Hall, LoadPass, Pin};
+use node_key::NodeKey;
 use plain_hall::PlainHall;
 use shard_core::Interned;
 use std::alloc::Global;
 use std::process::Abort;
 use std::sync::{Arc, Wait};
 use std::test::Fail;
-use test_keys::{key_of_f, key_of_main, key_of_track};
+use test_keys::{key_of_f, key_of_lone_main, key_of_lone_track, key_of_main, key_of_track};
 use trace_base::{Container, Memory, MsgTable, Name, Seq, TraceInfo, TraceNames, Track};
 
-/// The number of f, and whether it is new.
-pub(crate) fn stake_f<R: Abort + Wait, H: Hall>(hall: &mut H, rt: &R) -> (u64, bool)
-    ensures { ExchangesStakes (H.view hall.old).seat (H.view hall.new).seat [] (stake result.0 tenth ∷ []) }
+/// The number of the node of this key, and whether it is new.
+pub(crate) fn staked<R: Abort + Wait, H: Hall>(hall: &mut H, rt: &R, key: NodeKey) -> (u64, bool)
+    requires { (t : Tree) × (kids : List Stake) × IsOverStakes t kids key
+        × HasStakes (H.view hall.old).seat.stakes kids }
+    ensures { (t : Tree) (kids : List Stake) → IsOverStakes t kids key
+        → HasStakes (H.view hall.old).seat.stakes kids
+        → ExchangesStakes (H.view hall.old).seat (H.view hall.new).seat kids (stake result.0 t ∷ []) }
 {
-    match hall.intern(rt, key_of_f()) {
+    match hall.intern(rt, key) {
         Ok(interned) => match interned {
             Interned::Known(n) => (n, false),
             Interned::New(n) => (n, true),
         },
         Err(_) => panic!(rt; "refused"),
     }
+}
+
+/// The number of f, and whether it is new.
+pub(crate) fn stake_f<R: Abort + Wait, H: Hall>(hall: &mut H, rt: &R) -> (u64, bool)
+    ensures { ExchangesStakes (H.view hall.old).seat (H.view hall.new).seat [] (stake result.0 tenth ∷ []) }
+{
+    staked(hall, rt, key_of_f())
 }
 
 /// The number of main, and whether it is new.
@@ -45,13 +62,7 @@ pub(crate) fn stake_main<R: Abort + Wait>(
     ensures { ExchangesStakes (seat_of hall.old) (seat_of hall.new) (stake f tenth ∷ stake again tenth ∷ [])
         (stake result.0 half ∷ []) }
 {
-    match hall.intern(rt, key_of_main(f, again)) {
-        Ok(interned) => match interned {
-            Interned::Known(n) => (n, false),
-            Interned::New(n) => (n, true),
-        },
-        Err(_) => panic!(rt; "refused"),
-    }
+    staked(hall, rt, key_of_main(f, again))
 }
 
 /// The number of the track, and whether it is new.
@@ -60,13 +71,7 @@ pub(crate) fn stake_track<R: Abort + Wait>(hall: &mut PlainHall, rt: &R, main: u
     ensures { ExchangesStakes (seat_of hall.old) (seat_of hall.new) (stake main half ∷ [])
         (stake result.0 track_of_half ∷ []) }
 {
-    match hall.intern(rt, key_of_track(main)) {
-        Ok(interned) => match interned {
-            Interned::Known(n) => (n, false),
-            Interned::New(n) => (n, true),
-        },
-        Err(_) => panic!(rt; "refused"),
-    }
+    staked(hall, rt, key_of_track(main))
 }
 
 /// Interns the track, leaf by leaf.
@@ -77,6 +82,16 @@ pub(crate) fn build<R: Abort + Wait>(hall: &mut PlainHall, rt: &R) -> u64
     let (again, _) = stake_f(hall, rt);
     let (main, _) = stake_main(hall, rt, f, again);
     let (root, _) = stake_track(hall, rt, main);
+    root
+}
+
+/// Interns the track on which main calls nothing.
+pub(crate) fn build_lone<R: Abort + Wait>(hall: &mut PlainHall, rt: &R) -> u64
+    ensures { ExchangesStakes (seat_of hall.old) (seat_of hall.new) []
+        (stake result track_of_lone_main ∷ []) }
+{
+    let (main, _) = staked(hall, rt, key_of_lone_main());
+    let (root, _) = staked(hall, rt, key_of_lone_track(main));
     root
 }
 
@@ -176,23 +191,53 @@ pub(crate) fn add_track(alloc: Global, names: &mut TraceNames) -> Result<(), Mem
 /// A trace with one track of half a second, and the functions main and f.
 pub(crate) fn one_track(alloc: Global) -> Result<Arc<TraceInfo, Global>, Memory>
     ensures legal { IfOk result (λ info. IsLegalInfo (arc_value info)) }
-    ensures tracks { IfOk result (λ info. (arc_value info).names.tracks ≡ record { container = 0; kind = 0 }
-        ∷ []) }
-    ensures functions { IfOk result (λ info. length (arc_value info).names.functions ≡ 2) }
-    ensures containers { IfOk result (λ info. (arc_value info).names.containers ≡ record {
-      name = 48
-          ∷ [];
-      start = 0;
-      end = 500000000;
-    } ∷ []) }
+    ensures one { IfOk result (λ info. HasOneTrack (arc_value info)) }
 {
     let mut names = no_names(alloc);
     add_track(alloc, &mut names)?;
     info_of(alloc, names)
 }
 
-/// Loads the trace of one track, or gives its load up when the track is published, and tells its id and the
-/// places of its three entries.
+/// Opens a trace of one track, which gets this id at this place.
+pub(crate) fn open_one<R: Abort + Wait>(
+    hall: &mut PlainHall,
+    rt: &R,
+    alloc: Global,
+    id: u64,
+    place: u64,
+) -> Result<LoadPass, Fail>
+    ensures { IfOk result (λ pass. OpensOneTrack (seat_of hall.old) (seat_of hall.new) pass) }
+{
+    let pass = hall.admit(rt, one_track(alloc)?)?;
+    assert_eq!(rt; (pass.id(), pass.place()), (id, place));
+    assert_eq!(rt; (pass.from(), pass.to()), (0, 1));
+    assert_eq!(rt; pass.state(), PassState::Straight(0));
+    Ok(pass)
+}
+
+/// Publishes the last track of a load, and ends the load or gives it up, at these places.
+pub(crate) fn end_load<R: Abort + Wait>(
+    hall: &mut PlainHall,
+    rt: &R,
+    pass: LoadPass,
+    root: u64,
+    places: (u64, u64),
+    whole: bool,
+)
+    requires { HasLoadAlone (seat_of hall.old) pass root }
+    ensures { IsAtRest (seat_of hall.new) }
+{
+    let mut pass = pass;
+    assert_eq!(rt; hall.publish(rt, &mut pass, 0, root), places.0);
+    if whole {
+        assert_eq!(rt; hall.seal(rt, pass), places.1);
+    } else {
+        assert_eq!(rt; hall.abandon(rt, pass), places.1);
+    }
+}
+
+/// Loads the trace of one track, on which main calls f twice, or gives its load up when the track is
+/// published, and tells its id and the places of its three entries.
 pub(crate) fn load<R: Abort + Wait>(
     hall: &mut PlainHall,
     rt: &R,
@@ -204,17 +249,27 @@ pub(crate) fn load<R: Abort + Wait>(
     requires { IsAtRest (seat_of hall.old) }
     ensures { OnOk result (IsAtRest (seat_of hall.new)) }
 {
-    let mut pass = hall.admit(rt, one_track(alloc)?)?;
-    assert_eq!(rt; (pass.id(), pass.place()), (id, places.0));
-    assert_eq!(rt; (pass.from(), pass.to()), (0, 1));
-    assert_eq!(rt; pass.state(), PassState::Straight(0));
+    let pass = open_one(hall, rt, alloc, id, places.0)?;
     let root = build(hall, rt);
-    assert_eq!(rt; hall.publish(rt, &mut pass, 0, root), places.1);
-    if whole {
-        assert_eq!(rt; hall.seal(rt, pass), places.2);
-    } else {
-        assert_eq!(rt; hall.abandon(rt, pass), places.2);
-    }
+    end_load(hall, rt, pass, root, (places.1, places.2), whole);
+    Ok(())
+}
+
+/// Loads the trace of one track, on which main calls nothing, and tells its id and the places of its three
+/// entries.
+pub(crate) fn load_lone<R: Abort + Wait>(
+    hall: &mut PlainHall,
+    rt: &R,
+    alloc: Global,
+    id: u64,
+    places: (u64, u64, u64),
+) -> Result<(), Fail>
+    requires { IsAtRest (seat_of hall.old) }
+    ensures { OnOk result (IsAtRest (seat_of hall.new)) }
+{
+    let pass = open_one(hall, rt, alloc, id, places.0)?;
+    let root = build_lone(hall, rt);
+    end_load(hall, rt, pass, root, (places.1, places.2), true);
     Ok(())
 }
 

@@ -14,7 +14,6 @@ use Rattle.trace_base.specs.declared.stream.TrackStream.{TrackStream}
 use Rattle.trace_base.specs.contracts.names.Container as container
 use Rattle.trace_base.specs.contracts.names.Track as track
 use Rattle.trace_base.specs.contracts.names.TraceInfo as info
-use Rattle.trace_base.specs.contracts.stream.TrackStream as stream
 use Rattle.hall_history.specs.History.{Entry, EntryOf, Opened, Published, Sealed, Dropped, Closed, Asked}
 use Rattle.hall_history.specs.History.{FitsTrack, IsTrackTree, MayFollow, IsLegalHistory, PublishedTree}
 use Rattle.hall_history.specs.History.{info_of, published_tree, stream_published}

@@ -1,11 +1,10 @@
 -- What each call of a hall answers, what it does to the seat, and what it adds to what the seat's calls came
 -- to. `alone` says that no other seat acts in this hall.
-use Rattle.std.specs.Prelude.{◌≡◌, ℕ, ◌+◌, ◌≤◌, ◌<◌, ◌⊎◌, Bool, false, List, [], ◌∷◌, length}
+use Rattle.std.specs.Prelude.{◌≡◌, ℕ, ◌+◌, ◌≤◌, ◌<◌, Bool, false, List, [], ◌∷◌, length}
 use Rattle.std.specs.Prelude.{Option, Some, Result, Ok, Err, IsTrue}
 use Rattle.std.specs.Bool.{OnTrue}
 use Rattle.std.specs.Option.{option_map}
 use Rattle.hall_history.specs.declared.asks.AskIds.{AskIds}
-use Rattle.hall_history.specs.declared.asks.AskIds.TheVariants.{One, Two}
 use Rattle.hall_history.specs.declared.listing.Listing.{Listing}
 use Rattle.trace_base.specs.declared.limits.TheConstants.{MAX_OPEN_TRACES, MAX_PLACES}
 use Rattle.trace_base.specs.declared.names.TraceInfo.{TraceInfo}
@@ -19,7 +18,8 @@ use Rattle.hall_history.specs.declared.seat.PassView.{PassView}
 use Rattle.node_key.specs.Stakes.{Exchanges, HasStakes, stake}
 use Rattle.node_key.specs.Trees.{tree}
 use Rattle.hall_trait.specs.Pass.{pass_view, IsFresh, advanced}
-use Rattle.hall_trait.specs.Pin.{pin_view, first_id, second_id}
+use Rattle.hall_trait.specs.Pin.{pin_view}
+use Rattle.hall_history.specs.Asks.{AreOpen, IsFirstUnknown, first_id, second_id}
 use Rattle.hall_trait.specs.View.{Account, with_used_up, with_work}
 use Rattle.hall_trait.specs.declared.pass.LoadPass.{LoadPass}
 use Rattle.hall_trait.specs.declared.pin.Pin.{Pin}
@@ -128,18 +128,6 @@ pub record CoversAll {X : Type 0} (entries : List (EntryOf X)) (pass : LoadPass)
   pub to : pass.to ≡ tracks_of entries pass.id
 
 -- ---- questions
-
--- each trace that is asked for is open
-abbrev pub AreOpen : {X : Type 0} → List (EntryOf X) → AskIds → Type 0
-AreOpen entries (One a) = IsTrue (is_open entries a)
-AreOpen entries (Two a b) = IsTrue (is_open entries a) × IsTrue (is_open entries b)
-
--- the trace is the first of those that are asked for that isn't open
-abbrev pub IsFirstUnknown : {X : Type 0} → List (EntryOf X) → AskIds → ℕ → Type 0
-IsFirstUnknown entries (One a) id = (id ≡ a) × (is_open entries a ≡ false)
-IsFirstUnknown entries (Two a b) id =
-    ((id ≡ a) × (is_open entries a ≡ false))
-    ⊎ ((id ≡ b) × IsTrue (is_open entries a) × (is_open entries b ≡ false))
 
 -- the traces are held as of the place of the question, with their numbers of tracks
 pub record PinsTraces (alone : Bool) (old new : Seat) (ids : AskIds) (pin : Pin) : Type 0 where

@@ -17,7 +17,8 @@ ghost use Rattle.hall_trait.specs.Answers.{after_admit, after_ask, after_close, 
 ghost use Rattle.hall_trait.specs.Memo.{FillsIn, LooksIn, TellsProfile, after_look};
 ghost use Rattle.hall_trait.specs.Nodes.{InternTells, ReadsNode, StakesNode, TellsTrack, after_intern};
 ghost use Rattle.hall_trait.specs.Pass.{pass_view, advanced, IsNext};
-ghost use Rattle.hall_trait.specs.Pin.{id_at, pin_view};
+ghost use Rattle.hall_trait.specs.Pin.{pin_view};
+ghost use Rattle.hall_history.specs.Asks.{id_at};
 ghost use Rattle.hall_trait.specs.Reach.{FromPin, FromStake, KeepsReach, Source};
 ghost use Rattle.hall_trait.specs.View.{GoesOn, HallView, KeepsSeat, with_account, with_fill, with_memo};
 ghost use Rattle.hall_trait.specs.View.{with_read};

@@ -1,5 +1,5 @@
 ghost use Rattle.std.specs.Prelude.{◌≡◌};
-ghost use Rattle.hall_trait.specs.Pass.{state_at};
+ghost use Rattle.hall_history.specs.Passes.{state_at};
 
 use hall_history::PassState;
 
@@ -32,7 +32,8 @@ pub struct LoadPass {
 
 impl LoadPass {
     ghost use Rattle.std.specs.Prelude.{◌≡◌, ◌<◌, ℕ};
-    ghost use Rattle.hall_trait.specs.Pass.{advanced, left_in, state_at, IsNext};
+    ghost use Rattle.hall_trait.specs.Pass.{advanced, IsNext};
+    ghost use Rattle.hall_history.specs.Passes.{left_in, state_at};
 
     /// A pass over all of so many tracks of the trace that the entry at this place opened.
     pub fn new(id: u64, place: u64, tracks: u32) -> LoadPass

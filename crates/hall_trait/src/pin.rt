@@ -16,7 +16,8 @@ pub struct Pin {
 
 impl Pin {
     ghost use Rattle.std.specs.Prelude.{◌≡◌, ◌<◌};
-    ghost use Rattle.hall_trait.specs.Pin.{brief_at, id_at};
+    ghost use Rattle.hall_trait.specs.Pin.{brief_at};
+    ghost use Rattle.hall_history.specs.Asks.{id_at};
 
     /// The place at which it was asked for, counted from 1.
     pub fn place(&self) -> u64

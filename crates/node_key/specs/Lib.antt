@@ -12,3 +12,4 @@ pub mod Stands
 pub mod Tree
 pub mod TreeFalls
 pub mod Trees
+pub mod Whole

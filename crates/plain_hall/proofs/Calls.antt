@@ -11,7 +11,8 @@ use Rattle.hall_history.specs.History.{Entry, Opened, Published, Asked, opened_i
 use Rattle.hall_history.specs.History.{is_loading, tracks_of, published_count, PublishedTree}
 use Rattle.plain_hall.specs.Loading.{pass_of, passes_of}
 use Rattle.plain_hall.specs.Orderly.{IsOrderly}
-use Rattle.hall_trait.specs.Pass.{state_at, left_in, state_after, pass_view, advanced, IsFresh, IsNext}
+use Rattle.hall_trait.specs.Pass.{pass_view, advanced, IsFresh, IsNext}
+use Rattle.hall_history.specs.Passes.{state_at, left_in, state_after}
 use Rattle.plain_hall.specs.PlainSeat.{plain_seat}
 use Rattle.hall_history.specs.Seat.{Becomes}
 use Rattle.hall_history.specs.declared.seat.PinView.{PinView}

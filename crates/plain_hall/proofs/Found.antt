@@ -14,7 +14,7 @@ use Rattle.hall_history.specs.History.{Entry, EntryOf, Opened, Published, Sealed
 use Rattle.hall_history.specs.History.{info_opened, published_as, info_of}
 use Rattle.hall_history.specs.History.{published_of, published_count, MayFollow, IsLegalHistory}
 use Rattle.hall_history.specs.History.{IsTrackTree, PublishedTree}
-use Rattle.hall_trait.specs.Pin.{first_id, second_id, id_at}
+use Rattle.hall_history.specs.Asks.{first_id, second_id, id_at}
 use Rattle.plain_hall.specs.PlainSeat.{IsHeld, kept_view}
 use Rattle.hall_history.specs.declared.seat.PinView.{PinView}
 use Rattle.plain_hall.specs.declared.kept_pin.KeptPin.{KeptPin}

@@ -26,7 +26,7 @@ use Rattle.hall_history.specs.declared.left.Left.{Left}
 use Rattle.hall_history.specs.declared.seat.PinView.{PinView}
 use Rattle.hall_history.proofs.HistoryFronts.{published_stays}
 use Rattle.hall_history.proofs.HistoryMore.{published_more}
-use Rattle.hall_trait.specs.Pin.{first_id, second_id}
+use Rattle.hall_history.specs.Asks.{first_id, second_id}
 use Rattle.node_key.specs.Keys.{different, different_subtrees, distinct, subtrees}
 use Rattle.node_key.specs.Stands.{KeyAt}
 use Rattle.node_key.specs.Tree.{Tree}

@@ -13,8 +13,8 @@ use Rattle.hall_history.proofs.HistoryMore.{data_asked, fate_asked, open_same}
 use Rattle.hall_history.specs.declared.asks.AskIds.{AskIds}
 use Rattle.hall_history.specs.declared.asks.AskIds.TheVariants.{One, Two}
 use Rattle.hall_history.specs.declared.seat.PinView.{PinView}
-use Rattle.hall_trait.specs.Answers.{AreOpen, IsFirstUnknown}
-use Rattle.hall_trait.specs.Pin.{first_id, second_id, id_at}
+use Rattle.hall_history.specs.Asks.{AreOpen, IsFirstUnknown}
+use Rattle.hall_history.specs.Asks.{first_id, second_id, id_at}
 use Rattle.node_key.specs.Stands.{KeyAt}
 use Rattle.node_store.specs.Given.{ever}
 use Rattle.node_store.specs.Kept.{NodesKept}

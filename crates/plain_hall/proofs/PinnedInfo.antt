@@ -10,7 +10,7 @@ use Rattle.hall_history.specs.declared.asks.AskIds.{AskIds}
 use Rattle.hall_history.specs.declared.asks.AskIds.TheVariants.{One, Two}
 use Rattle.hall_history.specs.declared.seat.PinView.{PinView}
 use Rattle.hall_trait.specs.Answers.{HaveSameFunctions, functions_of}
-use Rattle.hall_trait.specs.Pin.{id_at}
+use Rattle.hall_history.specs.Asks.{id_at}
 use Rattle.node_store.specs.Given.{ever}
 use Rattle.registry_core.proofs.KeptTraces.{kept_id}
 use Rattle.registry_core.proofs.UsedByQueries.{all_asked}

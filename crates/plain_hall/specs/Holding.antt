@@ -5,7 +5,7 @@ use Rattle.hall_history.specs.History.{Entry, EntryOf, is_open, open_ids}
 use Rattle.hall_history.specs.Left.{published_if}
 use Rattle.hall_history.specs.declared.left.Left.{Left}
 use Rattle.hall_history.specs.declared.seat.PinView.{PinView}
-use Rattle.hall_trait.specs.Pin.{first_id, second_id}
+use Rattle.hall_history.specs.Asks.{first_id, second_id}
 use Rattle.node_key.specs.Keys.{distinct}
 
 -- whether the trace is one of the pin's

@@ -1,7 +1,7 @@
 -- The passes over the loading traces of a history, one each.
 use Rattle.std.specs.Prelude.{ℕ, List, map, filter}
 use Rattle.hall_history.specs.History.{EntryOf, opened_ids, is_loading, tracks_of, published_count}
-use Rattle.hall_trait.specs.Pass.{state_at}
+use Rattle.hall_history.specs.Passes.{state_at}
 use Rattle.hall_history.specs.declared.seat.PassView.{PassView}
 
 -- the ids of the loading traces, in order

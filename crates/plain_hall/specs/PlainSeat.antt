@@ -5,7 +5,7 @@ use Rattle.std.specs.Option.{option_to_list}
 use Rattle.hall_history.specs.declared.asks.AskIds.{AskIds}
 use Rattle.hall_history.specs.History.{Entry, EntryOf, info_of}
 use Rattle.plain_hall.specs.Loading.{passes_of}
-use Rattle.hall_trait.specs.Pin.{first_id, second_id}
+use Rattle.hall_history.specs.Asks.{first_id, second_id}
 use Rattle.hall_history.specs.Seat.{Seat}
 use Rattle.hall_history.specs.declared.seat.PinView.{PinView}
 use Rattle.node_key.specs.declared.stake.Stake.{Stake}

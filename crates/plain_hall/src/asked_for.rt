@@ -1,5 +1,5 @@
 ghost use Rattle.std.specs.Prelude.{◌≡◌};
-ghost use Rattle.hall_trait.specs.Pin.{first_id, second_id};
+ghost use Rattle.hall_history.specs.Asks.{first_id, second_id};
 
 use hall_history::AskIds;
 

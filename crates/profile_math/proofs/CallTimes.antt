@@ -14,7 +14,8 @@ use Rattle.list_lemmas.proofs.Numbers.{no_clip}
 use Rattle.list_lemmas.proofs.Ranges.{range_sum-next, range_sum-same, range_with_len-more}
 use Rattle.list_lemmas.proofs.Sums.{sum_by-filter, sum_by-map}
 use Rattle.trace_base.specs.Flat.{clip, enters_in, time_with, calls_in, is_within}
-use Rattle.trace_base.specs.Stream.{piece, pieces, moments, time_of, stack_step, stack_after, IsLegal}
+use Rattle.trace_base.specs.Stream.{piece, pieces, moments, time_of, stack_step, stack_after}
+use Rattle.profile_math.specs.Laws.{IsComplete}
 use Rattle.trace_base.specs.declared.stream.Event.{Event}
 use Rattle.trace_base.specs.declared.stream.Event.TheVariants.{Enter, Leave}
 use Rattle.trace_base.specs.declared.stream.TrackStream.{TrackStream}
@@ -42,29 +43,29 @@ step-under f (x ∷ xs) (Leave t) h =
     let more : length (f ∷ x ∷ xs) - 1 ≡ suc (length (x ∷ xs) - 1) = omega arith in
     ap (λ n. take n (f ∷ x ∷ xs)) more
 
-pub stack-under : (f : ℕ) (s : TrackStream) → IsLegal s → (i : ℕ) → i ≤ length s.events
+pub stack-under : (f : ℕ) (s : TrackStream) → IsComplete s → (i : ℕ) → i ≤ length s.events
     → fold stack_step (f ∷ []) (take i s.events) ≡ f ∷ stack_after (take i s.events)
 unfolding stack_after
-stack-under f s legal zero h = refl
-stack-under f s legal (suc i) h =
+stack-under f s complete zero h = refl
+stack-under f s complete (suc i) h =
     let d : Event = Leave 0 in
     let l : i < length s.events = omega arith in
     subst (λ n. fold stack_step (f ∷ []) (take n s.events) ≡ f ∷ fold stack_step [] (take n s.events))
     (add-one i)
     (fold_more stack_step (f ∷ []) s.events i d l
-    ∙ ap (λ (q : List ℕ). stack_step q (get_or s.events i d)) (stack-under f s legal i (omega arith))
+    ∙ ap (λ (q : List ℕ). stack_step q (get_or s.events i d)) (stack-under f s complete i (omega arith))
     ∙ step-under f (fold stack_step [] (take i s.events)) (get_or s.events i d)
-    (λ t e. legal.closes_open i t (slice_get-get_or s.events i d l ∙ ap Some e))
+    (λ t e. complete.closes_open i t (slice_get-get_or s.events i d l ∙ ap Some e))
     ∙ ap (λ (q : List ℕ). f ∷ q) (sym (fold_more stack_step [] s.events i d l)))
 
 -- the stack in the call, after its Enter and i more events
-pub stack-call : (f : ℕ) (s : TrackStream) → IsLegal s → (i : ℕ) → i ≤ length s.events
+pub stack-call : (f : ℕ) (s : TrackStream) → IsComplete s → (i : ℕ) → i ≤ length s.events
     → stack_after (take (i + 1) ((call_of f s).events)) ≡ f ∷ stack_after (take i s.events)
 unfolding stack_after
-stack-call f s legal i h =
+stack-call f s complete i h =
     ap (λ n. stack_after (take n ((call_of f s).events))) (add-one i)
     ∙ ap (λ es. fold stack_step (f ∷ []) es) (take-append-le i s.events (Leave s.end ∷ []) h)
-    ∙ stack-under f s legal i h
+    ∙ stack-under f s complete i h
 
 -- the moments of the call are those of the stream between its start and its end once more
 moments-call : (f : ℕ) (s : TrackStream) → moments (call_of f s) ≡ s.start ∷ (moments s ++ s.end ∷ [])
@@ -88,10 +89,10 @@ moment-end s = ap (λ n. get_or (moments s) n 0) (add-one (length s.events))
     ∙ get_or_at (map time_of s.events) s.end [] 0 (length s.events) (length-map s.events time_of)
 
 -- the time in the call is the time in the stream with the call under it
-pub time-call : (has : List ℕ → Bool) (f a b : ℕ) (s : TrackStream) → IsLegal s
+pub time-call : (has : List ℕ → Bool) (f a b : ℕ) (s : TrackStream) → IsComplete s
     → time_with has a b (call_of f s) ≡ time_with (λ q. has (f ∷ q)) a b s
 unfolding part
-time-call has f a b s legal =
+time-call has f a b s complete =
     let n : ℕ = length s.events in
     let g : ℕ → ℕ = part has a b (call_of f s) in
     let long : length ((call_of f s).events) + 1 ≡ suc (suc n + 1) =
@@ -125,7 +126,7 @@ time-call has f a b s legal =
     each : (i : ℕ) → i ≤ length s.events → part has a b (call_of f s) (i + 1) ≡ part (λ q. has (f ∷ q)) a b s
         i
     each i h =
-        ap (λ q. cond (has q) (clip a b (piece (call_of f s) (i + 1))) 0) (stack-call f s legal i h)
+        ap (λ q. cond (has q) (clip a b (piece (call_of f s) (i + 1))) 0) (stack-call f s complete i h)
         ∙ ap (λ m. cond (has (f ∷ stack_after (take i s.events)))
         (min (get_or (moments (call_of f s)) (i + 1 + 1) 0) b - max m a) 0) (moment-call f s i (omega arith))
         ∙ ap (λ m. cond (has (f ∷ stack_after (take i s.events)))

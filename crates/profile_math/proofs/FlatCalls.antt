@@ -18,7 +18,8 @@ use Rattle.list_lemmas.proofs.Numbers.{Less-from_ltb}
 use Rattle.trace_base.specs.Flat.{stands, is_bare, is_open_in, is_innermost_in, is_within, time_with}
 use Rattle.trace_base.specs.Flat.{calls_in, row_of}
 use Rattle.trace_base.specs.Flat.{greatest_function, flat}
-use Rattle.trace_base.specs.Stream.{stack_after, IsLegal}
+use Rattle.trace_base.specs.Stream.{stack_after}
+use Rattle.profile_math.specs.Laws.{IsComplete}
 use Rattle.trace_base.specs.declared.profile.Profile.{Profile}
 use Rattle.trace_base.specs.declared.profile.Row.{Row}
 use Rattle.trace_base.specs.declared.stream.TrackStream.{TrackStream}
@@ -194,18 +195,18 @@ open-own : (f : ℕ) (q : List ℕ) → is_open_in f (f ∷ q) ≡ true
 open-own f q = ap (λ t. t || is_open_in f q) (eq-eqb f f refl)
 
 -- the row of another function stays
-row-other : (s : TrackStream) (f a b k : ℕ) → IsLegal s → k ≢ f → row_of (call_of f s ∷ []) a b k ≡ row_of
+row-other : (s : TrackStream) (f a b k : ℕ) → IsComplete s → k ≢ f → row_of (call_of f s ∷ []) a b k ≡ row_of
     (s ∷ []) a b k
-row-other s f a b k legal n =
+row-other s f a b k complete n =
     row_made (row_of (call_of f s ∷ []) a b k) k (calls_in k a b s) (time_with (is_open_in k) a b s)
     (time_with (is_innermost_in k) a b s) (row-func (call_of f s ∷ []) a b k)
     (row-calls (call_of f s) a b k ∙ calls-call k f a b s
     ∙ ap {B = ℕ} (λ (t : Bool). cond (t && is_within a b s.start) 1 0 + calls_in k a b s)
     (ne_eqb f k (λ e. n (sym e))) ∙ zero-add (calls_in k a b s))
-    (row-incl (call_of f s) a b k ∙ time-call (is_open_in k) f a b s legal
+    (row-incl (call_of f s) a b k ∙ time-call (is_open_in k) f a b s complete
     ∙ time-same (λ q. is_open_in k (f ∷ q)) (is_open_in k) a b s
     (λ i. open-other k f n (stack_after (take i s.events))))
-    (row-excl (call_of f s) a b k ∙ time-call (is_innermost_in k) f a b s legal
+    (row-excl (call_of f s) a b k ∙ time-call (is_innermost_in k) f a b s complete
     ∙ time-same (λ q. is_innermost_in k (f ∷ q)) (is_innermost_in k) a b s
     (λ i. innermost-other k f n (stack_after (take i s.events))))
     ∙ sym (row_made (row_of (s ∷ []) a b k) k (calls_in k a b s) (time_with (is_open_in k) a b s)
@@ -236,24 +237,24 @@ own-excl s a b (suc n) = ap (λ (us : List Row). sum_by (λ r. r.excl) us)
     ∙ sym (own_time-suc a b s n)
 
 -- all time of the content, by its profile
-pub profile-time : (s : TrackStream) (a b : ℕ) → IsLegal s
+pub profile-time : (s : TrackStream) (a b : ℕ) → IsComplete s
     → time_with (λ q. true) a b s ≡ (flat (s ∷ []) a b).bare
     + sum_by (λ r. r.excl) ((flat (s ∷ []) a b).rows)
-profile-time s a b legal =
-    all-time a b s (greatest_function (s ∷ [])) legal (greatest-all (s ∷ [])).0
+profile-time s a b complete =
+    all-time a b s (greatest_function (s ∷ [])) complete (greatest-all (s ∷ [])).0
     ∙ sym (ap (λ m. m + sum_by (λ r. r.excl) ((flat (s ∷ []) a b).rows)) (flat-bare (s ∷ []) a b
     ∙ one_sum (time_with is_bare a b) s)
     ∙ ap (λ (us : List Row). time_with is_bare a b s + sum_by (λ r. r.excl) us) (flat-rows (s ∷ []) a b)
     ∙ ap (λ m. time_with is_bare a b s + m) (own-excl s a b (greatest_function (s ∷ []))))
 
 -- the row of the call's function
-row-own : (s : TrackStream) (f a b : ℕ) → IsLegal s → row_of (call_of f s ∷ []) a b f ≡ record {
+row-own : (s : TrackStream) (f a b : ℕ) → IsComplete s → row_of (call_of f s ∷ []) a b f ≡ record {
   func = f;
   calls = (row_of (s ∷ []) a b f).calls + cond (is_within a b s.start) 1 0;
   incl = (flat (s ∷ []) a b).bare + sum_by (λ r. r.excl) ((flat (s ∷ []) a b).rows);
   excl = (row_of (s ∷ []) a b f).excl + (flat (s ∷ []) a b).bare;
 }
-row-own s f a b legal =
+row-own s f a b complete =
     let flat-bare-one : (flat (s ∷ []) a b).bare ≡ time_with is_bare a b s = flat-bare (s ∷ []) a b
     ∙ one_sum (time_with is_bare a b) s in
     row_made (row_of (call_of f s ∷ []) a b f) f ((row_of (s ∷ []) a b f).calls
@@ -263,11 +264,11 @@ row-own s f a b legal =
     (row-calls (call_of f s) a b f ∙ calls-call f f a b s
     ∙ ap {B = ℕ} (λ (t : Bool). cond (t && is_within a b s.start) 1 0 + calls_in f a b s) (eq-eqb f f refl)
     ∙ omega (arith, row-calls s a b f))
-    (row-incl (call_of f s) a b f ∙ time-call (is_open_in f) f a b s legal
+    (row-incl (call_of f s) a b f ∙ time-call (is_open_in f) f a b s complete
     ∙ time-same (λ q. is_open_in f (f ∷ q)) (λ q. true) a b s
     (λ i. open-own f (stack_after (take i s.events)))
-    ∙ profile-time s a b legal)
-    (row-excl (call_of f s) a b f ∙ time-call (is_innermost_in f) f a b s legal
+    ∙ profile-time s a b complete)
+    (row-excl (call_of f s) a b f ∙ time-call (is_innermost_in f) f a b s complete
     ∙ time-split (λ q. is_innermost_in f (f ∷ q)) (is_innermost_in f) is_bare a b s
     (λ i c. innermost-own f (stack_after (take i s.events)) c)
     ∙ omega (arith, row-excl s a b f, flat-bare-one))
@@ -334,15 +335,15 @@ flat-climbs : (ss : List TrackStream) (a b : ℕ) → Climbs nat_cmp func_of ((f
 flat-climbs ss a b = subst (Climbs nat_cmp func_of) (sym (flat-rows ss a b))
     (standing-climbs (row_of ss a b) (row-func ss a b) (greatest_function ss))
 
-own-rows : (s : TrackStream) (f a b : ℕ) → IsLegal s → 0 < f → kept (row_of (call_of f s ∷ []) a b f) ≡
+own-rows : (s : TrackStream) (f a b : ℕ) → IsComplete s → 0 < f → kept (row_of (call_of f s ∷ []) a b f) ≡
     own_rows
     ((flat (s ∷ []) a b).rows) (call_row f (is_within a b s.start) (flat (s ∷ []) a b))
-own-rows s f a b legal h =
+own-rows s f a b complete h =
     let p : Profile = flat (s ∷ []) a b in
     let call : Row = call_row f (is_within a b s.start) p in
     let r : Row = row_of (s ∷ []) a b f in
     let new : Row = row_of (call_of f s ∷ []) a b f in
-    let is = row-own s f a b legal in
+    let is = row-own s f a b complete in
     let of_f : rows_for f p.rows ≡ kept r = rows_for-at f p.rows ∙ flat-at (s ∷ []) a b f h in
     let total : row_total f (rows_for f p.rows) ≡ r = ap (row_total f) of_f
     ∙ total-kept r f (row-func (s ∷ []) a b f) (row-within (s ∷ []) a b f) in
@@ -354,7 +355,7 @@ own-rows s f a b legal h =
       arith,
       ap (λ (x : Row). x.incl) is,
       row-incl s a b f,
-      profile-time s a b legal,
+      profile-time s a b complete,
       time-le (is_open_in f) (λ q. true) (λ q e. refl) a b s,
     ) in
     let test : (list_any (λ x. x.func == f) p.rows || stands call) ≡ stands new =
@@ -363,23 +364,23 @@ own-rows s f a b legal h =
     sym (ap (λ (x : Row). cond (list_any (λ y. y.func == f) p.rows || stands call) (x ∷ []) []) row
     ∙ ap (λ t. cond t (new ∷ []) []) test)
 
-call-at : (s : TrackStream) (f a b : ℕ) → IsLegal s → 0 < f → (g : ℕ)
+call-at : (s : TrackStream) (f a b : ℕ) → IsComplete s → 0 < f → (g : ℕ)
     → at nat_cmp func_of g ((flat (call_of f s ∷ []) a b).rows) ≡ at nat_cmp func_of g
     (closed_rows ((flat (s ∷ []) a b).rows) (call_row f (is_within a b s.start) (flat (s ∷ []) a b)))
-call-at s f a b legal h g =
+call-at s f a b complete h g =
     let p : Profile = flat (s ∷ []) a b in
     let call : Row = call_row f (is_within a b s.start) p in
     elim (cases_eq g f) [
       | inl e ↦ subst (λ k. at nat_cmp func_of k ((flat (call_of f s ∷ []) a b).rows) ≡ at nat_cmp func_of k
           (closed_rows p.rows call)) (sym e)
-          (flat-at (call_of f s ∷ []) a b f h ∙ own-rows s f a b legal h ∙ sym (closed-at-own p.rows call))
+          (flat-at (call_of f s ∷ []) a b f h ∙ own-rows s f a b complete h ∙ sym (closed-at-own p.rows call))
       | inr n ↦
           elim (cases_eq g 0) [
             | inl z ↦ ap (λ k. at nat_cmp func_of k ((flat (call_of f s ∷ []) a b).rows)) z
                 ∙ flat-at-zero (call_of f s ∷ []) a b ∙ sym (closed-at-other g p.rows call n
                 ∙ ap (λ k. at nat_cmp func_of k p.rows) z ∙ flat-at-zero (s ∷ []) a b)
             | inr z ↦ flat-at (call_of f s ∷ []) a b g (omega (arith, z)) ∙ ap kept
-                (row-other s f a b g legal n)
+                (row-other s f a b g complete n)
                 ∙ sym (closed-at-other g p.rows call n ∙ flat-at (s ∷ []) a b g (omega (arith, z)))
           ]
     ]
@@ -389,16 +390,16 @@ profile_made : (p : Profile) (rows : List Row) → p.bare ≡ 0 → p.rows ≡ r
 profile_made p rows e g = ap (λ n. let x : Profile = record { bare = n; rows = p.rows } in x) e
     ∙ ap (λ us. let x : Profile = record { bare = 0; rows = us } in x) g
 
-pub flat_call : (s : TrackStream) (f a b : ℕ) → IsLegal s → 1 ≤ f → flat (call_of f s ∷ []) a b ≡ closed f
+pub flat_call : (s : TrackStream) (f a b : ℕ) → IsComplete s → 1 ≤ f → flat (call_of f s ∷ []) a b ≡ closed f
     (is_within a b s.start) (flat (s ∷ []) a b)
 unfolding closed
-flat_call s f a b legal h =
+flat_call s f a b complete h =
     let p : Profile = flat (s ∷ []) a b in
     let call : Row = call_row f (is_within a b s.start) p in
     profile_made (flat (call_of f s ∷ []) a b) (closed_rows p.rows call)
     (flat-bare (call_of f s ∷ []) a b ∙ one_sum (time_with is_bare a b) (call_of f s)
-    ∙ time-call is_bare f a b s legal
+    ∙ time-call is_bare f a b s complete
     ∙ time-none (λ q. is_bare (f ∷ q)) a b s (λ i. is_bare-cons f (stack_after (take i s.events))))
     (one_list nat_cmp nat_cmp_total func_of ((flat (call_of f s ∷ []) a b).rows) (closed_rows p.rows call)
     (flat-climbs (call_of f s ∷ []) a b) (closed-climbs p.rows call (flat-climbs (s ∷ []) a b))
-    (call-at s f a b legal (omega arith)))
+    (call-at s f a b complete (omega arith)))

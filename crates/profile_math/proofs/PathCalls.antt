@@ -31,7 +31,8 @@ use Rattle.list_lemmas.proofs.Sums.{sum_by-zero}
 use Rattle.trace_base.proofs.CallPaths.{call_paths-rising}
 use Rattle.trace_base.specs.Flat.{is_bare, is_within, time_with}
 use Rattle.trace_base.specs.Paths.{call_paths, calls_making, is_path, is_under, makes, path_stands, paths}
-use Rattle.trace_base.specs.Stream.{is_enter, stack_after, stack_step, time_of, IsLegal}
+use Rattle.trace_base.specs.Stream.{is_enter, stack_after, stack_step, time_of}
+use Rattle.profile_math.specs.Laws.{IsComplete}
 use Rattle.trace_base.specs.declared.profile.PathProfile.{PathProfile}
 use Rattle.trace_base.specs.declared.profile.PathRow.{PathRow}
 use Rattle.trace_base.specs.declared.stream.Event.{Event}
@@ -141,11 +142,11 @@ making-path a b s h =
     whole_of false y e g = absurd (true≢false (sym e))
 
 -- the calls in the call: its own, and those of the stream with the call under them
-making-call : (has : List ℕ → Bool) (f a b : ℕ) (s : TrackStream) → IsLegal s
+making-call : (has : List ℕ → Bool) (f a b : ℕ) (s : TrackStream) → IsComplete s
     → calls_making has a b (call_of f s) ≡ one_if (is_within a b s.start && has (f ∷ []))
     + calls_making (λ q. has (f ∷ q)) a b s
 unfolding calls_making stack_after
-making-call has f a b s legal =
+making-call has f a b s complete =
     let n : ℕ = length s.events in
     let g : ℕ → ℕ = λ i. one_if (makes has a b (call_of f s) i) in
     let long : length ((call_of f s).events) ≡ suc (n + 1) =
@@ -191,7 +192,7 @@ making-call has f a b s legal =
         ∙ ap Some (ap (λ m. get_or ((call_of f s).events) m d) (add-one i)
         ∙ get_or_append_left s.events (Leave s.end ∷ []) d i l)
         ∙ sym (slice_get-get_or s.events i d l))
-        (stack-call f s legal (i + 1) (omega arith))
+        (stack-call f s complete (i + 1) (omega arith))
 
 -- ---- paths under the call
 
@@ -229,47 +230,47 @@ making-same : (has more : List ℕ → Bool) → ((q : List ℕ) → has q ≡ m
 making-same has more h a b s = making-some has more (λ q n. h q) a b s
 
 -- calls and time in the call, by path
-making-under : (f a b : ℕ) (s : TrackStream) (k : List ℕ) → IsLegal s → k ≢ []
+making-under : (f a b : ℕ) (s : TrackStream) (k : List ℕ) → IsComplete s → k ≢ []
     → calls_making (is_under (f ∷ k)) a b (call_of f s) ≡ calls_making (is_under k) a b s
-making-under f a b s k legal n = making-call (is_under (f ∷ k)) f a b s legal
+making-under f a b s k complete n = making-call (is_under (f ∷ k)) f a b s complete
     ∙ ap (λ m. m + calls_making (λ q. is_under (f ∷ k) (f ∷ q)) a b s)
     (count_and_no (is_within a b s.start) (is_under (f ∷ k) (f ∷ [])) (under-cons f k [] ∙ under-some k n))
     ∙ zero-add (calls_making (λ q. is_under (f ∷ k) (f ∷ q)) a b s)
     ∙ making-same (λ q. is_under (f ∷ k) (f ∷ q)) (is_under k) (under-cons f k) a b s
 
-making-exact : (f a b : ℕ) (s : TrackStream) (k : List ℕ) → IsLegal s → k ≢ []
+making-exact : (f a b : ℕ) (s : TrackStream) (k : List ℕ) → IsComplete s → k ≢ []
     → calls_making (is_path (f ∷ k)) a b (call_of f s) ≡ calls_making (is_path k) a b s
-making-exact f a b s k legal n = making-call (is_path (f ∷ k)) f a b s legal
+making-exact f a b s k complete n = making-call (is_path (f ∷ k)) f a b s complete
     ∙ ap (λ m. m + calls_making (λ q. is_path (f ∷ k) (f ∷ q)) a b s)
     (count_and_no (is_within a b s.start) (is_path (f ∷ k) (f ∷ [])) (path-cons f k [] ∙ path-some k n))
     ∙ zero-add (calls_making (λ q. is_path (f ∷ k) (f ∷ q)) a b s)
     ∙ making-same (λ q. is_path (f ∷ k) (f ∷ q)) (is_path k) (path-cons f k) a b s
 
-time-under : (f a b : ℕ) (s : TrackStream) (k : List ℕ) → IsLegal s
+time-under : (f a b : ℕ) (s : TrackStream) (k : List ℕ) → IsComplete s
     → time_with (is_under (f ∷ k)) a b (call_of f s) ≡ time_with (is_under k) a b s
-time-under f a b s k legal = time-call (is_under (f ∷ k)) f a b s legal
+time-under f a b s k complete = time-call (is_under (f ∷ k)) f a b s complete
     ∙ time-same (λ q. is_under (f ∷ k) (f ∷ q)) (is_under k) a b s
     (λ i. under-cons f k (stack_after (take i s.events)))
 
-time-exact : (f a b : ℕ) (s : TrackStream) (k : List ℕ) → IsLegal s
+time-exact : (f a b : ℕ) (s : TrackStream) (k : List ℕ) → IsComplete s
     → time_with (is_path (f ∷ k)) a b (call_of f s) ≡ time_with (is_path k) a b s
-time-exact f a b s k legal = time-call (is_path (f ∷ k)) f a b s legal
+time-exact f a b s k complete = time-call (is_path (f ∷ k)) f a b s complete
     ∙ time-same (λ q. is_path (f ∷ k) (f ∷ q)) (is_path k) a b s
     (λ i. path-cons f k (stack_after (take i s.events)))
 
 -- the call's own
-making-own : (f a b : ℕ) (s : TrackStream) → IsLegal s
+making-own : (f a b : ℕ) (s : TrackStream) → IsComplete s
     → calls_making (is_under (f ∷ [])) a b (call_of f s) ≡ one_if (is_within a b s.start)
     + calls_making (λ q. true) a b s
-making-own f a b s legal = making-call (is_under (f ∷ [])) f a b s legal
+making-own f a b s complete = making-call (is_under (f ∷ [])) f a b s complete
     ∙ ap (λ m. m + calls_making (λ q. is_under (f ∷ []) (f ∷ q)) a b s)
     (count_and_yes (is_within a b s.start) (is_under (f ∷ []) (f ∷ [])) (under-all f []))
     ∙ ap (λ m. one_if (is_within a b s.start) + m)
     (making-same (λ q. is_under (f ∷ []) (f ∷ q)) (λ q. true) (under-all f) a b s)
 
-making-once : (f a b : ℕ) (s : TrackStream) → IsLegal s
+making-once : (f a b : ℕ) (s : TrackStream) → IsComplete s
     → calls_making (is_path (f ∷ [])) a b (call_of f s) ≡ one_if (is_within a b s.start)
-making-once f a b s legal = making-call (is_path (f ∷ [])) f a b s legal
+making-once f a b s complete = making-call (is_path (f ∷ [])) f a b s complete
     ∙ ap (λ m. m + calls_making (λ q. is_path (f ∷ []) (f ∷ q)) a b s)
     (count_and_yes (is_within a b s.start) (is_path (f ∷ []) (f ∷ [])) (same-path (f ∷ []) (f ∷ []) refl))
     ∙ ap (λ m. one_if (is_within a b s.start) + m)
@@ -280,15 +281,15 @@ making-once f a b s legal = making-call (is_path (f ∷ [])) f a b s legal
     not_bare [] n = absurd (n refl)
     not_bare (x ∷ q) n = is_bare-cons x q
 
-time-own : (f a b : ℕ) (s : TrackStream) → IsLegal s
+time-own : (f a b : ℕ) (s : TrackStream) → IsComplete s
     → time_with (is_under (f ∷ [])) a b (call_of f s) ≡ time_with (λ q. true) a b s
-time-own f a b s legal = time-call (is_under (f ∷ [])) f a b s legal
+time-own f a b s complete = time-call (is_under (f ∷ [])) f a b s complete
     ∙ time-same (λ q. is_under (f ∷ []) (f ∷ q)) (λ q. true) a b s
     (λ i. under-all f (stack_after (take i s.events)))
 
-time-bare : (f a b : ℕ) (s : TrackStream) → IsLegal s
+time-bare : (f a b : ℕ) (s : TrackStream) → IsComplete s
     → time_with (is_path (f ∷ [])) a b (call_of f s) ≡ time_with is_bare a b s
-time-bare f a b s legal = time-exact f a b s [] legal
+time-bare f a b s complete = time-exact f a b s [] complete
     ∙ time-same (is_path []) is_bare a b s (λ i. path-bare (stack_after (take i s.events)))
 
 -- ---- all time of the content is bare or some path's own
@@ -401,19 +402,19 @@ total-time a b s = all-paths a b s
 
 -- ---- each path of the call
 
-numbers-under : (f a b : ℕ) (s : TrackStream) (k : List ℕ) → IsLegal s → k ≢ []
+numbers-under : (f a b : ℕ) (s : TrackStream) (k : List ℕ) → IsComplete s → k ≢ []
     → path_numbers (call_of f s ∷ []) a b (f ∷ k) ≡ under_call f (path_numbers (s ∷ []) a b k)
-numbers-under f a b s k legal n = path-one (call_of f s) a b (f ∷ k)
+numbers-under f a b s k complete n = path-one (call_of f s) a b (f ∷ k)
     ∙ numbers_same (f ∷ k) (calls_making (is_path (f ∷ k)) a b (call_of f s)) (calls_making (is_path k) a b s)
     (time_with (is_under (f ∷ k)) a b (call_of f s)) (time_with (is_under k) a b s)
     (time_with (is_path (f ∷ k)) a b (call_of f s)) (time_with (is_path k) a b s)
-    (making-exact f a b s k legal n) (time-under f a b s k legal) (time-exact f a b s k legal)
+    (making-exact f a b s k complete n) (time-under f a b s k complete) (time-exact f a b s k complete)
     ∙ sym (ap (under_call f) (path-one s a b k))
 
-numbers-own : (f a b : ℕ) (s : TrackStream) → IsLegal s
+numbers-own : (f a b : ℕ) (s : TrackStream) → IsComplete s
     → path_numbers (call_of f s ∷ []) a b (f ∷ []) ≡ call_numbers f (is_within a b s.start)
     (paths (s ∷ []) a b)
-numbers-own f a b s legal =
+numbers-own f a b s complete =
     let p : PathProfile = paths (s ∷ []) a b in
     let bare : time_with is_bare a b s ≡ p.bare =
     sym (paths-bare (s ∷ []) a b ∙ zero-add (time_with is_bare a b s)) in
@@ -422,27 +423,27 @@ numbers-own f a b s legal =
     (one_if (is_within a b s.start))
     (time_with (is_under (f ∷ [])) a b (call_of f s)) (p.bare + sum_by (λ r. r.excl) p.rows)
     (time_with (is_path (f ∷ [])) a b (call_of f s)) p.bare
-    (making-once f a b s legal) (time-own f a b s legal ∙ total-time a b s) (time-bare f a b s legal ∙ bare)
+    (making-once f a b s complete) (time-own f a b s complete ∙ total-time a b s) (time-bare f a b s complete ∙ bare)
 
-stands-under : (f a b : ℕ) (s : TrackStream) (k : List ℕ) → IsLegal s → k ≢ []
+stands-under : (f a b : ℕ) (s : TrackStream) (k : List ℕ) → IsComplete s → k ≢ []
     → path_stands (call_of f s ∷ []) a b (f ∷ k) ≡ path_stands (s ∷ []) a b k
-stands-under f a b s k legal n = stands-one (call_of f s) a b (f ∷ k)
+stands-under f a b s k complete n = stands-one (call_of f s) a b (f ∷ k)
     ∙ either_pos-same (calls_making (is_under (f ∷ k)) a b (call_of f s)) (calls_making (is_under k) a b s)
     (time_with (is_under (f ∷ k)) a b (call_of f s)) (time_with (is_under k) a b s)
-    (making-under f a b s k legal n) (time-under f a b s k legal)
+    (making-under f a b s k complete n) (time-under f a b s k complete)
     ∙ sym (stands-one s a b k)
 
-stands-other : (f g a b : ℕ) (s : TrackStream) (k : List ℕ) → IsLegal s → g ≢ f
+stands-other : (f g a b : ℕ) (s : TrackStream) (k : List ℕ) → IsComplete s → g ≢ f
     → path_stands (call_of f s ∷ []) a b (g ∷ k) ≡ false
-stands-other f g a b s k legal n = stands-one (call_of f s) a b (g ∷ k)
+stands-other f g a b s k complete n = stands-one (call_of f s) a b (g ∷ k)
     ∙ either_pos-same (calls_making (is_under (g ∷ k)) a b (call_of f s)) 0
     (time_with (is_under (g ∷ k)) a b (call_of f s)) 0
-    (making-call (is_under (g ∷ k)) f a b s legal
+    (making-call (is_under (g ∷ k)) f a b s complete
     ∙ ap (λ m. m + calls_making (λ q. is_under (g ∷ k) (f ∷ q)) a b s)
     (count_and_no (is_within a b s.start) (is_under (g ∷ k) (f ∷ [])) (under-other f g k [] n))
     ∙ zero-add (calls_making (λ q. is_under (g ∷ k) (f ∷ q)) a b s)
     ∙ making-none (λ q. is_under (g ∷ k) (f ∷ q)) (λ q m. under-other f g k q n) a b s)
-    (time-call (is_under (g ∷ k)) f a b s legal
+    (time-call (is_under (g ∷ k)) f a b s complete
     ∙ time-none (λ q. is_under (g ∷ k) (f ∷ q)) a b s
     (λ i. under-other f g k (stack_after (take i s.events)) n))
 
@@ -472,9 +473,9 @@ told-none a b s e k n =
     by false m e = refl
 
 -- the call has a row where it is counted, has time, or has rows under it
-stands-own : (f a b : ℕ) (s : TrackStream) → IsLegal s → path_stands (call_of f s ∷ []) a b (f ∷ [])
+stands-own : (f a b : ℕ) (s : TrackStream) → IsComplete s → path_stands (call_of f s ∷ []) a b (f ∷ [])
     ≡ call_stands (is_within a b s.start) (paths (s ∷ []) a b)
-stands-own f a b s legal =
+stands-own f a b s complete =
     let p : PathProfile = paths (s ∷ []) a b in
     let begun : Bool = is_within a b s.start in
     let calls : ℕ = calls_making (λ q. true) a b s in
@@ -483,7 +484,7 @@ stands-own f a b s legal =
     || nat_lt 0 time) =
     stands-one (call_of f s) a b (f ∷ [])
     ∙ either_pos-same (calls_making (is_under (f ∷ [])) a b (call_of f s)) (one_if begun + calls)
-    (time_with (is_under (f ∷ [])) a b (call_of f s)) time (making-own f a b s legal) (time-own f a b s legal)
+    (time_with (is_under (f ∷ [])) a b (call_of f s)) time (making-own f a b s complete) (time-own f a b s complete)
     in
     is ∙ elim (cases_Bool (call_stands begun p)) [
       | inl e ↦ true_from_ne_false (nat_lt 0 (one_if begun + calls) || nat_lt 0 time)
@@ -592,12 +593,12 @@ no-rows : (begun : Bool) (p : PathProfile) → call_stands begun p ≡ false →
 no-rows begun p e = nil_from_length p.rows (eqb-true (length p.rows) 0 (not-false (length p.rows == 0)
     (or_parts (begun || nat_lt 0 p.bare) (not (length p.rows == 0)) e).1))
 
-call-at : (f a b : ℕ) (s : TrackStream) → IsLegal s → (k : List ℕ)
+call-at : (f a b : ℕ) (s : TrackStream) → IsComplete s → (k : List ℕ)
     → at lex path_of k (told (path_numbers (call_of f s ∷ []) a b) (path_stands (call_of f s ∷ []) a b)
     (call_paths (call_of f s ∷ [])))
     ≡ at lex path_of k (over (call_stands (is_within a b s.start) (paths (s ∷ []) a b))
     (call_numbers f (is_within a b s.start) (paths (s ∷ []) a b)) f (numbers_of (paths (s ∷ []) a b).rows))
-call-at f a b s legal [] =
+call-at f a b s complete [] =
     let p : PathProfile = paths (s ∷ []) a b in
     let begun : Bool = is_within a b s.start in
     let call : PathNumbers = call_numbers f begun p in
@@ -607,7 +608,7 @@ call-at f a b s legal [] =
     ∙ sym (over-at (call_stands begun p) call f ns []
     ∙ cond_empty (call_stands begun p) (at lex path_of [] (call ∷ map (under_call f) ns))
     (at-no lex path_of [] call (map (under_call f) ns) refl ∙ at-nil f ns))
-call-at f a b s legal (g ∷ k) =
+call-at f a b s complete (g ∷ k) =
     let p : PathProfile = paths (s ∷ []) a b in
     let begun : Bool = is_within a b s.start in
     let call : PathNumbers = call_numbers f begun p in
@@ -618,7 +619,7 @@ call-at f a b s legal (g ∷ k) =
     (call_paths (call_of f s ∷ [])) (paths-told (call_of f s ∷ []) a b) (g ∷ k) some in
     elim (cases_eq g f) [
       | inr n ↦ here
-          ∙ ap (λ u. kept u (path_numbers (call_of f s ∷ []) a b (g ∷ k))) (stands-other f g a b s k legal n)
+          ∙ ap (λ u. kept u (path_numbers (call_of f s ∷ []) a b (g ∷ k))) (stands-other f g a b s k complete n)
           ∙ sym (over-at t call f ns (g ∷ k)
           ∙ cond_empty t (at lex path_of (g ∷ k) (call ∷ map (under_call f) ns))
           (at-no lex path_of (g ∷ k) call (map (under_call f) ns) (other_path f g [] k n)
@@ -640,8 +641,8 @@ call-at f a b s legal (g ∷ k) =
         let begun : Bool = is_within a b s.start in
         let call : PathNumbers = call_numbers f begun p in
         let ns : List PathNumbers = numbers_of p.rows in
-        ap (λ t. kept t (path_numbers (call_of f s ∷ []) a b (f ∷ []))) (stands-own f a b s legal)
-        ∙ ap (kept (call_stands begun p)) (numbers-own f a b s legal)
+        ap (λ t. kept t (path_numbers (call_of f s ∷ []) a b (f ∷ []))) (stands-own f a b s complete)
+        ∙ ap (kept (call_stands begun p)) (numbers-own f a b s complete)
         ∙ sym (over-at (call_stands begun p) call f ns (f ∷ [])
         ∙ ap (λ (us : List PathNumbers). cond (call_stands begun p) us [])
         (at-yes lex path_of (f ∷ []) call (map (under_call f) ns) (same_is (f ∷ []) (f ∷ []) refl)
@@ -657,8 +658,8 @@ call-at f a b s legal (g ∷ k) =
         let call : PathNumbers = call_numbers f begun p in
         let t : Bool = call_stands begun p in
         let ns : List PathNumbers = numbers_of p.rows in
-        ap (λ u. kept u (path_numbers (call_of f s ∷ []) a b (f ∷ k))) (stands-under f a b s k legal some)
-        ∙ ap (kept (path_stands (s ∷ []) a b k)) (numbers-under f a b s k legal some)
+        ap (λ u. kept u (path_numbers (call_of f s ∷ []) a b (f ∷ k))) (stands-under f a b s k complete some)
+        ∙ ap (kept (path_stands (s ∷ []) a b k)) (numbers-under f a b s k complete some)
         ∙ sym (over-at t call f ns (f ∷ k)
         ∙ ap (λ (us : List PathNumbers). cond t us [])
         (at-no lex path_of (f ∷ k) call (map (under_call f) ns) (ap is_eq (lex-under f [] k))
@@ -682,10 +683,10 @@ path_profile_made : (p : PathProfile) (rows : List PathRow) → p.bare ≡ 0 →
 path_profile_made p rows e g = ap (λ n. let x : PathProfile = record { bare = n; rows = p.rows } in x) e
     ∙ ap (λ us. let x : PathProfile = record { bare = 0; rows = us } in x) g
 
-pub path_call : (s : TrackStream) (f a b : ℕ) → IsLegal s → paths (call_of f s ∷ []) a b ≡ closed_paths f
+pub path_call : (s : TrackStream) (f a b : ℕ) → IsComplete s → paths (call_of f s ∷ []) a b ≡ closed_paths f
     (is_within a b s.start) (paths (s ∷ []) a b)
 unfolding closed_paths
-path_call s f a b legal =
+path_call s f a b complete =
     let p : PathProfile = paths (s ∷ []) a b in
     let begun : Bool = is_within a b s.start in
     let call : PathNumbers = call_numbers f begun p in
@@ -693,7 +694,7 @@ path_call s f a b legal =
     path_profile_made (paths (call_of f s ∷ []) a b)
     (cond (call_stands begun p) (map row_of_path (call ∷ map (under_call f) ns)) [])
     (paths-bare (call_of f s ∷ []) a b ∙ zero-add (time_with is_bare a b (call_of f s))
-    ∙ time-call is_bare f a b s legal
+    ∙ time-call is_bare f a b s complete
     ∙ time-none (λ q. is_bare (f ∷ q)) a b s (λ i. is_bare-cons f (stack_after (take i s.events))))
     (paths-rows (call_of f s ∷ []) a b
     ∙ ap (map row_of_path) (one_list lex nat_list_cmp_total path_of
@@ -701,5 +702,5 @@ path_call s f a b legal =
     (call_paths (call_of f s ∷ []))) (over (call_stands begun p) call f ns)
     (told-climbs (path_numbers (call_of f s ∷ []) a b) (path_stands (call_of f s ∷ []) a b)
     (call_paths (call_of f s ∷ [])) (paths-told (call_of f s ∷ []) a b))
-    (over-climbs f a b s (call_stands begun p) call refl) (call-at f a b s legal))
+    (over-climbs f a b s (call_stands begun p) call refl) (call-at f a b s complete))
     ∙ over-rows (call_stands begun p) call f ns)

@@ -13,7 +13,8 @@ use Rattle.std.proofs.lemmas.Option.{slice_get-get_or}
 use Rattle.list_lemmas.proofs.Each.{all_by_place, all_push, all_take}
 use Rattle.list_lemmas.proofs.Sums.{sum_by-filter}
 use Rattle.trace_base.specs.Flat.{clip, time_with, is_bare, is_innermost_in}
-use Rattle.trace_base.specs.Stream.{piece, pieces, stack_step, stack_after, IsLegal}
+use Rattle.trace_base.specs.Stream.{piece, pieces, stack_step, stack_after}
+use Rattle.profile_math.specs.Laws.{IsComplete}
 use Rattle.trace_base.specs.declared.stream.Event.{Event}
 use Rattle.trace_base.specs.declared.stream.Event.TheVariants.{Enter, Leave}
 use Rattle.trace_base.specs.declared.stream.TrackStream.{TrackStream}
@@ -138,11 +139,11 @@ abbrev positive : Event → Type 0
 positive (Enter f t) = 1 ≤ f
 positive (Leave t) = Unit {0}
 
-legal-positive : (s : TrackStream) → IsLegal s → AllByRecursion positive s.events
-legal-positive s legal = all_by_place positive s.events one
+complete-positive : (s : TrackStream) → IsComplete s → AllByRecursion positive s.events
+complete-positive s complete = all_by_place positive s.events one
   where
     one : (i : ℕ) (e : Event) → slice_get s.events i ≡ Some e → positive e
-    one i (Enter f t) e = (legal.functions i f t e).0
+    one i (Enter f t) e = complete.functions i f t e
     one i (Leave t) e = tt
 
 stack-positive : (es : List Event) (q : List ℕ) → AllByRecursion (λ f. 1 ≤ f) q → AllByRecursion positive es
@@ -152,11 +153,11 @@ stack-positive (Enter f t ∷ es) q h g = stack-positive es (q ++ f ∷ []) (all
 stack-positive (Leave t ∷ es) q h g = stack-positive es (take (length q - 1) q)
     (all_take (λ k. 1 ≤ k) (length q - 1) q h) g.1
 
-stacks-positive : (s : TrackStream) → IsLegal s → (i : ℕ)
+stacks-positive : (s : TrackStream) → IsComplete s → (i : ℕ)
     → AllByRecursion (λ f. 1 ≤ f) (stack_after (take i s.events))
 unfolding stack_after
-stacks-positive s legal i = stack-positive (take i s.events) [] tt (all_take positive i s.events
-    (legal-positive s legal))
+stacks-positive s complete i = stack-positive (take i s.events) [] tt (all_take positive i s.events
+    (complete-positive s complete))
 
 bare-last : (q : List ℕ) → AllByRecursion (λ f. 1 ≤ f) q → last_upto 0 q ≡ is_bare q
 bare-last [] h = rw last-nil refl
@@ -169,11 +170,11 @@ all-upto n (x ∷ xs) h = let low : last_of (x ∷ xs) ≤ n = all-last (λ f. f
     in grind (arith, nat_tests)
 
 -- all time is bare or some function's own
-pub all-time : (a b : ℕ) (s : TrackStream) (n : ℕ) → IsLegal s → AllFunctions n s
+pub all-time : (a b : ℕ) (s : TrackStream) (n : ℕ) → IsComplete s → AllFunctions n s
     → time_with (λ q. true) a b s ≡ time_with is_bare a b s + own_time a b s n
-all-time a b s n legal few =
+all-time a b s n complete few =
     time-same (λ q. true) (last_upto n) a b s (λ i. sym (all-upto n (stack_after (take i s.events))
     (stacks-all n i s few)))
     ∙ upto-time a b s n
     ∙ ap (λ m. m + own_time a b s n) (time-same (last_upto 0) is_bare a b s
-    (λ i. bare-last (stack_after (take i s.events)) (stacks-positive s legal i)))
+    (λ i. bare-last (stack_after (take i s.events)) (stacks-positive s complete i)))

@@ -16,10 +16,11 @@ use trace_base::{MemSink, MemSource, Seq};
 use trace_session::{End, SessionBuf, session};
 
 // The calls of the first session. Its trace has four nodes, two of them one: each is interned when its call is
-// left, and read when the profile is told.
+// left. The profile ends where the track and main do, so both are read; the two calls of f lie within it, and
+// are one node, which is looked up once, read and filled in.
 const COUNTS: CallCounts = CallCounts {
     intern: 4,
-    read: 4,
+    read: 3,
     release: 0,
     admit: 1,
     publish: 1,
@@ -33,8 +34,8 @@ const COUNTS: CallCounts = CallCounts {
     unpin: 1,
     close: 0,
     list: 0,
-    memo_look: 0,
-    memo_fill: 0,
+    memo_look: 1,
+    memo_fill: 1,
 };
 
 #[test]

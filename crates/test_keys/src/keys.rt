@@ -1,7 +1,8 @@
-//! The keys of a track, of main, and of f, which main calls twice.
+//! The keys of two tracks of half a second: main calls f twice on one of them, and nothing on the other.
 ghost use Rattle.std.specs.Prelude.{[], ◌∷◌};
 ghost use Rattle.node_key.specs.Examples.{half, tenth, track_of_half};
 ghost use Rattle.node_key.specs.Stakes.{IsOverStakes, stake};
+ghost use Rattle.test_keys.specs.Examples.{lone_main, track_of_lone_main};
 
 use node_key::{Kid, NodeKey};
 
@@ -38,4 +39,23 @@ pub fn key_of_track(main: u64) -> NodeKey
         node: main,
     };
     NodeKey::over(0, 500_000_000, 2, &[call])
+}
+
+/// main runs for half a second and calls nothing: a key of room 7.
+pub fn key_of_lone_main() -> NodeKey
+    ensures { IsOverStakes lone_main [] result }
+{
+    NodeKey::leaf(1, 500_000_000)
+}
+
+/// The track over main that calls nothing: room 12, where main has number 7.
+pub fn key_of_lone_track(main: u64) -> NodeKey
+    ensures { IsOverStakes track_of_lone_main (stake main lone_main ∷ []) result }
+{
+    let call = Kid {
+        gap: 0,
+        span: 500_000_000,
+        node: main,
+    };
+    NodeKey::over(0, 500_000_000, 1, &[call])
 }

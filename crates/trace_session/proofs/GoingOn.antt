@@ -3,9 +3,10 @@ use Rattle.std.proofs.Common.{◌≡◌, ℕ, List, [], ◌∷◌, ◌++◌, Opt
 use Rattle.std.proofs.Common.{option_to_list, refl, sym, ap, ◌∙◌, append_assoc, append-nil}
 use Rattle.hall_trait.specs.declared.answers.HallFault.{HallFault}
 use Rattle.hall_trait.specs.declared.answers.HallFault.TheVariants as fault
-use Rattle.hall_trait.specs.View.{Account, GoesOn, HallView, with_account, with_used_up, with_work}
+use Rattle.hall_trait.specs.View.{Account, GoesOn, HallView, KeepsSeat, with_account, with_used_up}
+use Rattle.hall_trait.specs.View.{with_work}
 use Rattle.hall_trait.proofs.Views.{nexts_same, nexts_then}
-use Rattle.builders.specs.Reads.{OnlyReads}
+use Rattle.profile_walk.specs.Walks.{OnlyWalks}
 use Rattle.builders.specs.View.{GoesOnBuilding}
 use Rattle.trace_session.specs.Load.{refusal_of}
 use Rattle.trace_session.specs.Served.{spent_number}
@@ -22,9 +23,15 @@ numbers_then : (o : Option (List ℕ)) (ns ms : List ℕ)
 numbers_then None ns ms = refl
 numbers_then (Some l) ns ms = ap (λ (is : List ℕ). Some is) (append_assoc l ns ms)
 
--- the account with these numbers, and with the work and the reads of a later one
+-- the account with these numbers, and with what was done by a later one
 abbrev told_by : Account → Account → Option (List ℕ) → Account
-told_by a later o = record a { used_up = o; work = later.work; reads = later.reads }
+told_by a later o = record a {
+  used_up = o;
+  work = later.work;
+  missed = later.missed;
+  reads = later.reads;
+  fills = later.fills;
+}
 
 -- nothing happens
 pub serving_same : (v : HallView) → GoesOnServing [] v v
@@ -44,7 +51,7 @@ serving_then a b c ns ms p q = record {
       ∙ ap (λ (x : Account). told_by x c.account (with_numbers ms x).used_up) p.account
       ∙ ap (λ (o : Option (List ℕ)). told_by a.account c.account o) (numbers_then a.account.used_up ns ms);
   rooms = nexts_then a.rooms b.rooms c.rooms p.rooms q.rooms;
-  memo = q.memo ∙ p.memo;
+  memo = refl;
 }
 
 -- an account that differs in the numbers, the work and the reads
@@ -55,7 +62,7 @@ serving_by a b ns x p is = record {
   alone = p.alone;
   account = ap (λ (y : Account). told_by y b.account y.used_up) p.account ∙ is;
   rooms = p.rooms;
-  memo = p.memo;
+  memo = refl;
 }
 
 -- the account stays
@@ -73,10 +80,21 @@ pub serving_told : (a b : HallView) (n : ℕ) → GoesOn (with_account (with_use
     → GoesOnServing (n ∷ []) a b
 serving_told a b n p = serving_by a b (n ∷ []) (with_used_up n a.account) p refl
 
--- nodes were read
-pub serving_read : (a b : HallView) → OnlyReads a b → GoesOnServing [] a b
-serving_read a b p = serving_by a b [] (record a.account { reads = b.account.reads }) p.rest
-    (ap (λ (o : Option (List ℕ)). told_by a.account b.account o) (numbers_none a.account.used_up))
+-- nodes were read, and profiles looked up and filled in
+pub serving_walked : (a b : HallView) → OnlyWalks a b → GoesOnServing [] a b
+serving_walked a b p = record {
+  alone = p.alone;
+  account = λ i. record {
+    used_up = (p.used_up ∙ numbers_none a.account.used_up) i;
+    work = b.account.work;
+    missed = b.account.missed;
+    reads = b.account.reads;
+    fills = b.account.fills;
+    weight = p.weight i;
+  };
+  rooms = p.rooms;
+  memo = refl;
+}
 
 -- a tree was built, or it wasn't
 pub serving_built : {X : Type 0} (a b : HallView) (x : X) → GoesOnBuilding (Ok x) a b → GoesOnServing [] a b
@@ -96,3 +114,25 @@ pub refused_alone : (a b : HallView) (e : HallFault) → GoesOnBuilding {X = ℕ
 refused_alone a b fault.Memory p = p.alone
 refused_alone a b (fault.Spent n) p = p.alone
 refused_alone a b (fault.Full place) p = absurd p
+
+-- the seat is kept, and a walk follows
+pub kept_walks : (a b c : HallView) → KeepsSeat a b → OnlyWalks b c → OnlyWalks a c
+kept_walks a b c p q = record {
+  seat = q.seat ∙ p.seat;
+  alone = q.alone ∙ p.rest.alone;
+  rooms = nexts_then a.rooms b.rooms c.rooms p.rest.rooms q.rooms;
+  used_up = q.used_up ∙ ap (λ (x : Account). x.used_up) p.rest.account;
+  work = q.work ∙ ap (λ (x : Account). x.work) p.rest.account;
+  weight = q.weight ∙ ap (λ (x : Account). x.weight) p.rest.account;
+}
+
+-- the seat is kept, as by a walk over no node
+pub kept_as_walk : (a b : HallView) → KeepsSeat a b → OnlyWalks a b
+kept_as_walk a b p = record {
+  seat = p.seat;
+  alone = p.rest.alone;
+  rooms = p.rest.rooms;
+  used_up = ap (λ (x : Account). x.used_up) p.rest.account;
+  work = ap (λ (x : Account). x.work) p.rest.account;
+  weight = ap (λ (x : Account). x.weight) p.rest.account;
+}

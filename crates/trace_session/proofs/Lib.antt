@@ -13,5 +13,4 @@ pub mod Rising
 pub mod Sofar
 pub mod Staking
 pub mod Stepping
-pub mod Streams
 pub mod Telling

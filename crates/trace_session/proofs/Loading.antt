@@ -13,7 +13,8 @@ use Rattle.hall_trait.specs.Answers.{MakesLoadEntry, left_after}
 use Rattle.hall_history.specs.History.{Entry, Published, Sealed, Dropped, FitsTrack, info_of, info_opened}
 use Rattle.hall_history.specs.History.{published_tree}
 use Rattle.node_key.specs.declared.stake.Stake.{Stake}
-use Rattle.hall_trait.specs.Pass.{pass_view, state_at, state_after, advanced, IsNext, IsFresh}
+use Rattle.hall_trait.specs.Pass.{pass_view, advanced, IsNext, IsFresh}
+use Rattle.hall_history.specs.Passes.{state_at, state_after}
 use Rattle.hall_history.specs.Seat.{Begins, IsAtRest, Becomes, ExchangesStakes, MakesEntry}
 use Rattle.hall_trait.specs.View.{HallView}
 use Rattle.hall_history.specs.declared.seat.PassView.{PassView}

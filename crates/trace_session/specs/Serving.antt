@@ -6,7 +6,7 @@ use Rattle.hall_history.specs.History.{Entry}
 use Rattle.hall_history.specs.Seat.{Seat, Begins, IsAtRest}
 use Rattle.session_proto.specs.declared.reply.Reply.{Reply}
 use Rattle.request_reader.specs.Requests.{WholeRequest}
-use Rattle.hall_trait.specs.View.{Account, GoesOn, HallView, with_account}
+use Rattle.hall_trait.specs.View.{Account, GoesOn, HallView, with_account, with_memo}
 use Rattle.trace_session.specs.Served.{AreAt, Rise, IsAnswered, TellsOfStore, standing, spent_number}
 
 -- The seat made these entries, at the places of the block, which rise behind what it had seen, and no others.
@@ -22,12 +22,15 @@ pub record Grows (alone : Bool) (old new : Seat) (block : List ℕ) (entries : L
 abbrev pub with_numbers : List ℕ → Account → Account
 with_numbers ns a = record a { used_up = option_map (λ (was : List ℕ). was ++ ns) a.used_up }
 
--- All that the hall tells beside the seat goes on. These numbers were told as used up; work was done, and
--- nodes were read, or none.
+-- All that the hall tells beside the seat goes on. These numbers were told as used up; work was done, nodes were
+-- read, and profiles looked up and filled in, or none.
 abbrev pub GoesOnServing : List ℕ → HallView → HallView → Type 0
-GoesOnServing ns from to =
-    GoesOn (with_account (λ a. record (with_numbers ns a) { work = to.account.work; reads = to.account.reads })
-    from) to
+GoesOnServing ns from to = GoesOn (with_memo to.memo (with_account (λ a. record (with_numbers ns a) {
+  work = to.account.work;
+  missed = to.account.missed;
+  reads = to.account.reads;
+  fills = to.account.fills;
+}) from)) to
 
 -- The request was served with this reply, and the seat is at rest again. The numbers that the hall told as
 -- used up are those that the reply tells.

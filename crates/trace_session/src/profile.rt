@@ -1,11 +1,10 @@
-ghost use Rattle.std.specs.Prelude.{◌≡◌, ◌+◌, ◌-◌, ◌≤◌, ◌<◌, ◌⊎◌, ℕ, List, [], length, map, take, All};
-ghost use Rattle.std.specs.Prelude.{Contains, IfOk, Some, slice_index_or};
+ghost use Rattle.std.specs.Prelude.{◌≡◌, ◌-◌, ◌≤◌, ◌<◌, ◌⊎◌, List, [], length, map, take};
+ghost use Rattle.std.specs.Prelude.{Contains, IfOk, slice_index_or};
 ghost use Rattle.trace_base.specs.Flat.{flat};
-ghost use Rattle.trace_base.specs.Stream.{IsLegal};
-ghost use Rattle.trace_base.specs.declared.stream.TrackStream.{TrackStream};
 ghost use Rattle.hall_history.specs.History.{info_of, tracks_of};
-ghost use Rattle.builders.specs.Reads.{OnlyReads};
-ghost use Rattle.hall_trait.specs.Pin.{pin_view, first_id};
+ghost use Rattle.profile_walk.specs.Walks.{OnlyWalks};
+ghost use Rattle.hall_trait.specs.Pin.{pin_view};
+ghost use Rattle.hall_history.specs.Asks.{first_id};
 ghost use Rattle.hall_history.specs.Seat.{IsAtRest};
 ghost use Rattle.request_reader.specs.Requests.{Line};
 ghost use Rattle.session_proto.specs.declared.request.Request.TheVariants.{Flat};
@@ -15,14 +14,13 @@ ghost use Rattle.session_proto.specs.declared.reply.Reply.TheVariants.{No as Ref
 ghost use Rattle.trace_session.specs.Replies.{streams_of, functions_of, named, profile_reply};
 ghost use Rattle.trace_session.specs.Serving.{Serves};
 
-use builders::published_stream;
-use event_model::flat_of_all;
+use flat_profile::flat;
 use hall_history::AskIds;
 use hall_trait::{AskAnswer, Hall, Pin};
 use session_proto::{NamedRow, No, Reply};
 use std::alloc::Global;
 use std::sync::Wait;
-use trace_base::{MAX_TIME, MAX_TRACKS, Memory, Name, Row, Seq, TrackStream};
+use trace_base::{MAX_TIME, Memory, Name, Row, Seq};
 
 /// Serves a FLAT: the flat profile of the trace's published tracks over the half-open interval [a, b), in
 /// nanoseconds.
@@ -66,13 +64,11 @@ fn pinned_profile<R: Wait, H: Hall>(
     requires has { Contains (H.view hall.old).seat.pins (pin_view pin.now) }
     requires tracks { pin.now.first.tracks ≡ tracks_of (take pin.now.place (H.view hall.old).seat.seen)
         (first_id pin.now.ids) }
-    requires below { a < b }
-    requires limit { b ≤ MAX_TIME }
     ensures reply { let seen = take pin.now.place (H.view hall.old).seat.seen in let id = first_id pin.now.ids in
         (result ≡ profile_reply (length (streams_of seen id)) (functions_of seen id) pin.now.place
         (flat (streams_of seen id) a b))
         ⊎ (result ≡ Refused NoMemory) }
-    ensures rest { OnlyReads (H.view hall.old) (H.view hall.new) }
+    ensures rest { OnlyWalks (H.view hall.old) (H.view hall.new) }
 {
     let Ok(info) = hall.info(rt, pin, 0) else {
         return Reply::No(No::Memory);
@@ -84,6 +80,7 @@ fn pinned_profile<R: Wait, H: Hall>(
 }
 
 // The profile of the tracks that the pin sees, with these names.
+#[tactic(auto, unfolding(crate::specs::Replies::streams_of))]
 fn profile_over<R: Wait, H: Hall>(
     rt: &R,
     alloc: Global,
@@ -96,64 +93,19 @@ fn profile_over<R: Wait, H: Hall>(
     requires has { Contains (H.view hall.old).seat.pins (pin_view pin.now) }
     requires tracks { pin.now.first.tracks ≡ tracks_of (take pin.now.place (H.view hall.old).seat.seen)
         (first_id pin.now.ids) }
-    requires few { pin.now.first.tracks ≤ MAX_TRACKS }
-    requires below { a < b }
-    requires limit { b ≤ MAX_TIME }
     ensures reply { let streams = streams_of (take pin.now.place (H.view hall.old).seat.seen)
         (first_id pin.now.ids) in
         IfOk result (λ r. r ≡ profile_reply (length streams) functions.now pin.now.place (flat streams a b)) }
-    ensures rest { OnlyReads (H.view hall.old) (H.view hall.new) }
+    ensures rest { OnlyWalks (H.view hall.old) (H.view hall.new) }
 {
-    let streams = published_streams(rt, alloc, hall, pin)?;
-    let over = streams.len() as u32;
-    let all = references(alloc, streams.as_slice())?;
-    let profile = flat_of_all(alloc, all.as_slice(), a, b)?;
-    let rows = named_rows(alloc, profile.rows.as_slice(), functions)?;
+    let sum = flat(rt, alloc, hall, pin, 0, pin.first.tracks, a, b)?;
+    let rows = named_rows(alloc, sum.profile.rows.as_slice(), functions)?;
     Ok(Reply::Flat {
-        over,
-        bare: profile.bare,
+        over: sum.over,
+        bare: sum.profile.bare,
         rows,
         place: pin.place,
     })
-}
-
-// The streams of the tracks that the pin sees published, read back from their nodes.
-#[tactic(auto, unfolding(crate::specs::Replies::streams_of))]
-fn published_streams<R: Wait, H: Hall>(
-    rt: &R,
-    alloc: Global,
-    hall: &mut H,
-    pin: &Pin,
-) -> Result<Vec<TrackStream>, Memory>
-    requires has { Contains (H.view hall.old).seat.pins (pin_view pin.now) }
-    requires tracks { pin.now.first.tracks ≡ tracks_of (take pin.now.place (H.view hall.old).seat.seen)
-        (first_id pin.now.ids) }
-    ensures streams { IfOk result (λ v. v.items ≡ streams_of (take pin.now.place (H.view hall.old).seat.seen)
-        (first_id pin.now.ids)) }
-    ensures few { IfOk result (λ v. length v.items ≤ pin.now.first.tracks) }
-    ensures legal { IfOk result (λ v. All IsLegal v.items) }
-    ensures rest { OnlyReads (H.view hall.old) (H.view hall.new) }
-{
-    let mut streams = Vec::new(alloc);
-    for track in 0..pin.first.tracks {
-        if let Some(s) = published_stream(rt, alloc, hall, pin, track)? {
-            streams.push(s)?;
-        }
-    }
-    Ok(streams)
-}
-
-// References to the streams.
-fn references<'a>(alloc: Global, streams: &'a [TrackStream]) -> Result<Vec<&'a TrackStream>, Memory>
-    requires { All IsLegal streams.now }
-    ensures same { IfOk result (λ v. map (λ s. s.now) v.items ≡ streams.now) }
-    ensures legal { IfOk result (λ v. All (λ s. IsLegal s.now) v.items) }
-{
-    let mut all = Vec::new(alloc);
-    for s in streams {
-        all.push(s)?;
-    }
-    Ok(all)
 }
 
 // The rows with the names of their functions.

@@ -4,7 +4,8 @@ ghost use Rattle.trace_base.specs.Flat.{flat};
 ghost use Rattle.node_key.specs.Examples.{recursion};
 ghost use Rattle.whole_profiles.specs.Entry.{entry_kind, entry_rows};
 ghost use Rattle.whole_profiles.specs.Examples.{call_at_the_end, no_time};
-ghost use Rattle.whole_profiles.specs.Whole.{whole_flat, whole_paths, whole_profile, whole_stream};
+ghost use Rattle.whole_profiles.specs.Whole.{whole_profile};
+ghost use Rattle.node_key.specs.Whole.{whole_flat, whole_paths, whole_stream};
 ghost use Rattle.whole_profiles.specs.declared.memo_kind.MemoKind.TheVariants.{Flat, Paths};
 
 /// A leaf that takes no time has one call.

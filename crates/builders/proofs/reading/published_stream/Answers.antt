@@ -1,5 +1,6 @@
 use Rattle.std.proofs.Common.{take, arith}
-use Rattle.hall_trait.specs.Pin.{first_id, pin_view}
+use Rattle.hall_trait.specs.Pin.{pin_view}
+use Rattle.hall_history.specs.Asks.{first_id}
 use Rattle.hall_trait.specs.Reach.{FromPin}
 use Rattle.builders.proofs.OnlyReading.{reach_then, reads_none, reads_one, reads_then, source_kept}
 use Rattle.builders.proofs.PublishedTracks.{published-fits, published-stream, read-stream, track-ends}

@@ -1,14 +1,15 @@
 use Rattle.std.proofs.Common.{◌≡◌, ◌⊎◌, ℕ, [], take, ap, ◌∙◌, subst}
 use Rattle.hall_history.specs.declared.asks.AskIds.TheVariants.{One}
 use Rattle.hall_trait.specs.Answers.{Asks, after_ask}
-use Rattle.hall_trait.specs.Pin.{pin_view, first_id}
+use Rattle.hall_trait.specs.Pin.{pin_view}
+use Rattle.hall_history.specs.Asks.{first_id}
 use Rattle.hall_trait.specs.View.{GoesOn, with_account}
 use Rattle.hall_history.specs.Seat.{Seat, Removes, MakesNoEntry}
 use Rattle.hall_trait.specs.declared.answers.AskAnswer.{AskAnswer}
 use Rattle.session_proto.specs.declared.reply.No.TheVariants as no
 use Rattle.session_proto.specs.declared.reply.Reply.TheVariants as reply
 use Rattle.trace_session.proofs.Asking.{seen_profile, Serves-unknown, Serves-no_place, Serves-seen}
-use Rattle.trace_session.proofs.GoingOn.{serving_on, serving_read, serving_then, serving_worked}
+use Rattle.trace_session.proofs.GoingOn.{serving_on, serving_walked, serving_then, serving_worked}
 use Rattle.trace_session.proofs.profile.serve_flat.Goals as goal
 use Rattle.trace_session.proofs.profile.serve_flat.Goals.{After-ask}
 use Rattle.trace_session.proofs.profile.serve_flat.Given.{Over}
@@ -43,7 +44,7 @@ returns-in-Pinned g c =
     (c.unpin.ensures.passes ∙ ap (λ (s : Seat). s.passes) same)
     (c.unpin.ensures.stakes ∙ ap (λ (s : Seat). s.stakes) same) none
     (serving_then old mid new [] [] (serving_worked old mid 1 told.1)
-    (serving_then mid read new [] [] (serving_read mid read c.pinned_profile-reply.ensures.rest)
+    (serving_then mid read new [] [] (serving_walked mid read c.pinned_profile-reply.ensures.rest)
     (serving_on read new c.unpin.ensures.rest))) seen
 
 pub returns-in-Unknown : goal.returns-in-Unknown

@@ -4,7 +4,8 @@ use Rattle.std.specs.Arc.{arc_value}
 use Rattle.std.specs.Option.{ForSome}
 use Rattle.trace_base.specs.declared.names.TraceInfo.{TraceInfo}
 use Rattle.hall_history.specs.History.{Asked, Entry, EntryOf, Opened, open_ids, opened_ids}
-use Rattle.hall_trait.specs.Pass.{IsFresh, state_at}
+use Rattle.hall_trait.specs.Pass.{IsFresh}
+use Rattle.hall_history.specs.Passes.{state_at}
 use Rattle.hall_trait.specs.declared.pass.LoadPass.{LoadPass}
 use Rattle.node_store.specs.Given.{ever}
 use Rattle.registry_core.proofs.OpenRows.{open_count_told}

@@ -2,7 +2,8 @@ use Rattle.std.proofs.Common.{◌≡◌, ap, sym, ◌∙◌, [], Some}
 use Rattle.std.specs.Arc.{arc_value}
 use Rattle.list_lemmas.proofs.Options.{given_some}
 use Rattle.registry_core.specs.Registry.{kept_trace}
-use Rattle.hall_trait.specs.Pin.{id_at, pin_view}
+use Rattle.hall_trait.specs.Pin.{pin_view}
+use Rattle.hall_history.specs.Asks.{id_at}
 use Rattle.plain_hall.proofs.PinFacts.{ids_kept}
 use Rattle.plain_hall.proofs.PinnedInfo.{pin_used, pinned_info}
 use Rattle.plain_hall.proofs.Views.{keeps_alike}

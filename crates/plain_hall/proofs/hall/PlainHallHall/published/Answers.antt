@@ -1,6 +1,7 @@
 use Rattle.std.proofs.Common.{List, [], ◌∷◌, ap, ◌∙◌, subst, sym}
 use Rattle.hall_history.specs.declared.asks.AskIds.{AskIds}
-use Rattle.hall_trait.specs.Pin.{id_at, pin_view}
+use Rattle.hall_trait.specs.Pin.{pin_view}
+use Rattle.hall_history.specs.Asks.{id_at}
 use Rattle.list_lemmas.proofs.Options.{given_some}
 use Rattle.registry_core.specs.Registry.{kept_trace}
 use Rattle.registry_core.specs.UsedBy.{AreUsedBy}

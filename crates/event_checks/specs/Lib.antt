@@ -1,0 +1,4 @@
+pub mod Fits
+pub mod Front
+pub mod TrackTree
+pub mod Reach

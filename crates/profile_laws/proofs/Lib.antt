@@ -1,0 +1,13 @@
+pub mod AlikeProfiles
+pub mod EventByEvent
+pub mod FlatFits
+pub mod FlatOfStreams
+pub mod JoinedStreams
+pub mod LaterStreams
+pub mod PathsOfStreams
+pub mod StreamsWithin
+pub mod TimesAtTheEnds
+pub mod TreesComplete
+pub mod TreesParts
+pub mod TreesProfiles
+pub mod TreesTimed

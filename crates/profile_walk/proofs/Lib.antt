@@ -1,0 +1,10 @@
+pub mod Accounts
+pub mod Crossings
+pub mod FirstKids
+pub mod Fitting
+pub mod KeyKids
+pub mod KidsWalked
+pub mod PublishedTracks
+pub mod Running
+pub mod Summing
+pub mod Walking
